@@ -1,0 +1,5 @@
+-- Facts about numbers and lists that no document names, one place for all crates.
+pub mod Tests
+pub mod Lists
+pub mod Search
+pub mod Sums

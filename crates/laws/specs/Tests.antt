@@ -1,0 +1,63 @@
+-- Tests that compute: a range, a test at every number or at every element, and what a passed test says.
+use Prim.Native.Nat.{ℕ, zero, suc, _≤_, _<_}
+use mathlib.Core.Path.{_≡_, refl, sym, _∙_}
+use mathlib.Core.Bool.{Bool, true, false, _&&_, and-eq-true-iff, true≢false}
+use mathlib.Core.List.{List, [], _∷_, List·Memᴰ, List·Memᴰ·cases-cons, List·Memᴰ·not-nil}
+use mathlib.Core.Logic.{_⊎_, inl, inr, ⊎-elim}
+use native.Mathlib.Nat.{le-suc-iff, le-of-suc-le-suc, not-suc-le-zero}
+use native.Mathlib.Omega.{arith}
+use lib.Dec.{leb}
+use borrow.Author.Tests.{leb-true, le-leb}
+
+-- x is low to high, both ends included
+unfoldable pub within : ℕ → ℕ → ℕ → Bool
+within low x high = leb low x && leb x high
+
+pub within-facts : (low x high : ℕ) → within low x high ≡ true → (low ≤ x) × (x ≤ high)
+unfolding within
+within-facts low x high e =
+    let h = and-eq-true-iff (leb low x) (leb x high) .0 e in
+    (leb-true low x (h .0), leb-true x high (h .1))
+
+pub within-test : (low x high : ℕ) → low ≤ x → x ≤ high → within low x high ≡ true
+unfolding within
+within-test low x high h k = and-eq-true-iff (leb low x) (leb x high) .1 (le-leb low x h, le-leb x high k)
+
+-- a Bool is one of two, and the equation is kept
+pub bool-cases : (b : Bool) → (b ≡ true) ⊎ (b ≡ false)
+bool-cases true = inl refl
+bool-cases false = inr refl
+
+-- the test holds at every number below n
+unfoldable pub everyBelow : (ℕ → Bool) → ℕ → Bool
+everyBelow test zero = true
+everyBelow test (suc n) = everyBelow test n && test n
+
+pub everyBelow-at : (test : ℕ → Bool) (n : ℕ) → everyBelow test n ≡ true → (k : ℕ) → k < n → test k ≡ true
+unfolding everyBelow
+everyBelow-at test zero e k h = absurd (not-suc-le-zero h)
+everyBelow-at test (suc n) e k h =
+    ⊎-elim (λ (l : k < n). everyBelow-at test n (and-eq-true-iff (everyBelow test n) (test n) .0 e .0) k l)
+    (λ (q : k ≡ n). rw q (and-eq-true-iff (everyBelow test n) (test n) .0 e .1))
+    (last-or-below h)
+  where
+    last-or-below : k < suc n → (k < n) ⊎ (k ≡ n)
+    last-or-below l = ⊎-elim inl (λ (q : suc k ≡ suc n). inr (omega arith)) (le-suc-iff .0 l)
+
+pub everyBelow-all : (test : ℕ → Bool) (n : ℕ) → ((k : ℕ) → k < n → test k ≡ true) → everyBelow test n ≡ true
+unfolding everyBelow
+everyBelow-all test zero f = refl
+everyBelow-all test (suc n) f =
+    and-eq-true-iff (everyBelow test n) (test n) .1 (everyBelow-all test n (λ k h. f k (omega arith)), f n (omega arith))
+
+-- the test holds of every element
+unfoldable pub every : {A : Type 0} → (A → Bool) → List A → Bool
+every test [] = true
+every test (a ∷ l) = test a && every test l
+
+pub every-at : {A : Type 0} (test : A → Bool) (l : List A) → every test l ≡ true → {a : A} → List·Memᴰ a l → test a ≡ true
+unfolding every
+every-at test [] e m = absurd (List·Memᴰ·not-nil m)
+every-at test (b ∷ l) e {a} m =
+    let h = and-eq-true-iff (test b) (every test l) .0 e in
+    ⊎-elim (λ (q : a ≡ b). rw q (h .0)) (λ (k : List·Memᴰ a l). every-at test l (h .1) k) (List·Memᴰ·cases-cons m)

@@ -1,0 +1,1 @@
+// Facts about numbers and lists that no document names: see specs/. There is no code here.

@@ -1,0 +1,4 @@
+-- What is proved of the definitions.
+pub mod Computed
+pub mod EitherSide
+pub mod WorkedRun
