@@ -1,4 +1,5 @@
 -- What is proved of the definitions.
 pub mod Computed
 pub mod EitherSide
+pub mod Facts
 pub mod WorkedRun
