@@ -2,4 +2,6 @@
 pub mod Computed
 pub mod EitherSide
 pub mod Facts
+pub mod Layers
+pub mod TagsAndRanks
 pub mod WorkedRun
