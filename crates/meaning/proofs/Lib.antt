@@ -3,6 +3,10 @@ pub mod Allowances
 pub mod Computed
 pub mod EitherSide
 pub mod Facts
+pub mod KeepsSound
+pub mod KeptByAdmission
+pub mod KeptByOffer
+pub mod KeptByStep
 pub mod Layers
 pub mod QueueLaws
 pub mod TagsAndRanks
