@@ -8,7 +8,7 @@ use native.Mathlib.Nat.{le-suc-iff, le-of-suc-le-suc, not-suc-le-zero}
 use native.Mathlib.Omega.{arith}
 use lib.ListN.{length, getD, set}
 use lib.Dec.{leb}
-use borrow.Author.Tests.{leb-true, le-leb}
+use borrow.Author.Tests.{leb-true, le-leb, lt-leb}
 
 -- x is low to high, both ends included
 unfoldable pub within : ℕ → ℕ → ℕ → Bool
@@ -95,3 +95,13 @@ every-set test (b ∷ l) zero a e f = and-eq-true-iff (test a) (every test l) .1
 every-set test (b ∷ l) (suc i) a e f =
     let h = and-eq-true-iff (test b) (every test l) .0 e in
     and-eq-true-iff (test b) (every test (set l i a)) .1 (h .0, every-set test l i a (h .1) f)
+
+pub within-below : (low x high : ℕ) → x < low → within low x high ≡ false
+unfolding within
+within-below low x high h = rw (lt-leb low x h) refl
+
+-- two tests that pass together are the same
+pub same-test : (a b : Bool) → (a ≡ true → b ≡ true) → (b ≡ true → a ≡ true) → a ≡ b
+same-test true b f g = sym (f refl)
+same-test false true f g = g refl
+same-test false false f g = refl
