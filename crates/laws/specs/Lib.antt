@@ -3,3 +3,4 @@ pub mod Tests
 pub mod Lists
 pub mod Search
 pub mod Sums
+pub mod Series
