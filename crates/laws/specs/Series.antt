@@ -1,12 +1,13 @@
 -- Lists made by counting: what a function gives at a start, and at every step from there.
-use Prim.Native.Nat.{ℕ, zero, suc, _+_, _*_, _-_, _≤_, _<_}
+use Prim.Native.Nat.{ℕ, zero, suc, _+_, _*_, _-_, _%_, _≤_, _<_}
 use mathlib.Core.Path.{_≡_, refl, sym, ap, _∙_}
 use mathlib.Core.Bool.{Bool, true, false, _&&_, and-eq-true-iff}
-use mathlib.Core.List.{List, [], _∷_, _++_, map, flatten, append-assoc}
+use mathlib.Core.List.{List, [], _∷_, _++_, map, flatten, append-assoc, append-nil}
 use native.Mathlib.Omega.{arith}
 use native.Mathlib.Numerals.{add-one}
+use native.Mathlib.Nat.{mod-eq-of-lt, add-mod-right}
 use lib.ListN.{length, getD, take, drop, replicate, length-append}
-use lib.Seq.{drop-cons, drop-drop, drop-at}
+use lib.Seq.{drop-cons, drop-drop, drop-at, getD-drop, ext-getD}
 use lib.Dec.{eqb}
 use borrow.Author.Tests.{eqb-true}
 use Rattle.laws.specs.Tests.{every}
@@ -137,3 +138,87 @@ length-chunks words size sized (a ∷ l) =
 
 pub append-same : {A : Type 0} {a b c d : List A} → a ≡ b → c ≡ d → a ++ c ≡ b ++ d
 append-same {a} {d} p q = ap (λ l. a ++ l) q ∙ ap (λ l. l ++ d) p
+
+-- a list that stands at a place is read there
+pub series-read : (ws l r : List ℕ) (start : ℕ) → drop start ws ≡ l ++ r → series (λ i. getD ws i 0) 1 start (length l) ≡ l
+unfolding series
+series-read ws [] r start e = refl
+series-read ws (x ∷ l) r start e =
+    (let a : getD ws start 0 ≡ x = word-read ws x (l ++ r) start e in
+    let d : drop (start + 1) ws ≡ l ++ r = sym (drop-drop 1 start ws) ∙ ap (drop 1) e in
+    rw a (ap (λ t. x ∷ t) (series-read ws l r (start + 1) d)))
+  where
+    word-read : (ws : List ℕ) (x : ℕ) (t : List ℕ) (start : ℕ) → drop start ws ≡ x ∷ t → getD ws start 0 ≡ x
+    word-read ws x t start e =
+        (let z : start + 0 ≡ start = omega arith in sym (ap (λ i. getD ws i 0) z) ∙ sym (getD-drop start ws 0 0) ∙ ap (λ l. getD l 0 0) e)
+
+-- a list is its own elements by their places
+pub series-self : {A : Type 0} (l : List A) (d : A) → series (λ i. getD l i d) 1 0 (length l) ≡ l
+series-self {A} l d =
+    (let f : ℕ → A = λ i. getD l i d in
+    let n = length-series f 1 0 (length l) in
+    ext-getD d (series f 1 0 (length l)) l n (λ i h.
+      (let e : 0 + 1 * i ≡ i = omega arith in getD-series f 1 0 (length l) i d (rw n at h) ∙ ap f e)))
+
+pub every-zeros : (n : ℕ) → every (λ w. eqb w 0) (replicate n 0) ≡ true
+unfolding every
+every-zeros zero = refl
+every-zeros (suc n) = every-zeros n
+
+-- the sum of what f gives at 0 to n - 1
+unfoldable pub sumBelow : (ℕ → ℕ) → ℕ → ℕ
+sumBelow f zero = 0
+sumBelow f (suc n) = sumBelow f n + f n
+
+pub sumBelow-same : (f g : ℕ → ℕ) (n : ℕ) → ((k : ℕ) → k < n → f k ≡ g k) → sumBelow f n ≡ sumBelow g n
+unfolding sumBelow
+sumBelow-same f g zero h = refl
+sumBelow-same f g (suc n) h = rw (sumBelow-same f g n (λ k l. h k (omega arith)), h n (omega arith))
+
+-- the first value first
+pub sumBelow-shift : (f : ℕ → ℕ) (n : ℕ) → f 0 + sumBelow (λ k. f (suc k)) n ≡ sumBelow f n + f n
+unfolding sumBelow
+sumBelow-shift f zero = omega arith
+sumBelow-shift f (suc n) = omega (arith, sumBelow-shift f n)
+
+-- zeros from m on add nothing
+pub sumBelow-zeros : (f : ℕ → ℕ) (m n : ℕ) → ((k : ℕ) → m ≤ k → k < m + n → f k ≡ 0) → sumBelow f (m + n) ≡ sumBelow f m
+unfolding sumBelow
+sumBelow-zeros f m zero h = let e : m + 0 ≡ m = omega arith in ap (sumBelow f) e
+sumBelow-zeros f m (suc n) h =
+    (let e : m + suc n ≡ suc (m + n) = omega arith in
+    let z : f (m + n) ≡ 0 = h (m + n) (omega arith) (omega arith) in
+    let r : sumBelow f (m + n) ≡ sumBelow f m = sumBelow-zeros f m n (λ k a b. h k a (omega arith)) in
+    let s : sumBelow f (m + n) + f (m + n) ≡ sumBelow f m = omega arith in
+    ap (sumBelow f) e ∙ s)
+
+-- a sum over a whole circle of places starts anywhere
+pub sumBelow-turned : (f : ℕ → ℕ) (size turns : ℕ) → 0 < size → sumBelow (λ k. f ((turns + k) % size)) size ≡ sumBelow f size
+sumBelow-turned f size zero h =
+    sumBelow-same (λ k. f ((0 + k) % size)) f size (λ k l.
+      (let e : 0 + k ≡ k = omega arith in ap (λ n. f (n % size)) e ∙ ap f (mod-eq-of-lt l)))
+sumBelow-turned f size (suc turns) h =
+    (let g : ℕ → ℕ = λ k. f ((turns + k) % size) in
+    let a : sumBelow (λ k. f ((suc turns + k) % size)) size ≡ sumBelow (λ k. g (suc k)) size =
+    sumBelow-same (λ k. f ((suc turns + k) % size)) (λ k. g (suc k)) size (λ k l.
+      (let e : suc turns + k ≡ turns + suc k = omega arith in ap (λ n. f (n % size)) e)) in
+    let z : turns + 0 ≡ turns = omega arith in
+    let b : g size ≡ g 0 = ap f (add-mod-right turns size ∙ ap (λ n. n % size) (sym z)) in
+    let s : sumBelow (λ k. g (suc k)) size ≡ sumBelow g size = omega (arith, sumBelow-shift g size, b) in
+    a ∙ s ∙ sumBelow-turned f size turns h)
+
+flatten-one : {A : Type 0} (l : List A) → flatten (l ∷ []) ≡ l
+unfolding flatten
+flatten-one l = append-nil l
+
+flatten-none : {A : Type 0} (f : ℕ → List A) → length (flatten (series f 1 0 0)) ≡ 0
+unfolding flatten series
+flatten-none f = refl
+
+pub length-flatten : {A : Type 0} (f : ℕ → List A) (n : ℕ) → length (flatten (series f 1 0 n)) ≡ sumBelow (λ i. length (f i)) n
+unfolding sumBelow
+length-flatten f zero = flatten-none f
+length-flatten f (suc n) =
+    (let e : 0 + 1 * n ≡ n = omega arith in
+    rw (series-last f 1 0 n, e, flatten-append (series f 1 0 n) (f n ∷ []), flatten-one (f n), length-append (flatten (series f 1 0 n)) (f n),
+      length-flatten f n))

@@ -1,3 +1,4 @@
 -- The laws of the layout.
 pub mod Rotation
 pub mod PutContents
+pub mod ContentsPut
