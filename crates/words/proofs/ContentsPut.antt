@@ -63,19 +63,19 @@ packet-read ws p r i e =
     let d = word-at ws (p .arrival) (packetWords p ++ r) i 3 e refl in
     rw (a, b, c, d))
 
-standing-size : (s : Standing) → length (standingWords s) ≡ 6
+pub standing-size : (s : Standing) → length (standingWords s) ≡ 6
 unfolding standingWords
 standing-size s = refl
 
-packet-size : (p : Packet) → length (packetWords p) ≡ 4
+pub packet-size : (p : Packet) → length (packetWords p) ≡ 4
 unfolding packetWords
 packet-size p = refl
 
-length-padded : (n : ℕ) (l : List ℕ) → length l ≤ n → length (padded n l) ≡ n
+pub length-padded : (n : ℕ) (l : List ℕ) → length l ≤ n → length (padded n l) ≡ n
 unfolding padded
 length-padded n l h = rw (length-append l (replicate (n - length l) 0), length-replicate {A = ℕ} (n - length l) 0) (omega arith)
 
-link-size : (l : Link) → length (linkWords l) ≡ 5
+pub link-size : (l : Link) → length (linkWords l) ≡ 5
 unfolding linkWords packetWords
 link-size free = refl
 link-size (carries p left) = refl
@@ -92,7 +92,7 @@ record Parts (box : Box) (ws : List ℕ) : Type 0 where
   at-211 : drop 211 ws ≡ map length (byPlace box) ++ drop 275 ws
   at-275 : drop 275 ws ≡ flatten (map packetWords (flatten (byPlace box))) ++ rest
 
-length-places : (box : Box) → length (byPlace box) ≡ 64
+pub length-places : (box : Box) → length (byPlace box) ≡ 64
 unfolding byPlace
 length-places box = length-series (λ p. getD (box .queues) (tagOf (turnsOf box) p) []) 1 0 64
 
@@ -136,7 +136,7 @@ put-parts box ws k =
       at-275 = e275;
     })
 
-length-queue : (ws : List ℕ) (p : ℕ) → length (queueAt ws p) ≡ word ws (211 + p)
+pub length-queue : (ws : List ℕ) (p : ℕ) → length (queueAt ws p) ≡ word ws (211 + p)
 unfolding queueAt
 length-queue ws p = length-series (packetAt ws) 4 (startOf ws p) (word ws (211 + p))
 
@@ -315,3 +315,12 @@ untagged-put box ws kept k =
       sym (length-queue ws (placeOf (turnsOf box) t)) ∙ ap length (tag-read box ws k t (omega (arith, kept .largest))) ∙
       ap length (List·getD-eq-default (box .queues) [] {n = t} (omega (arith, kept .tags)))))) ∙
     ap (every (λ w. eqb w 0)) (zeros-series 0 (63 - r)) ∙ every-zeros (63 - r)))
+
+pub put-unused : (box : Box) (ws : List ℕ) → Puttable box → unusedClear (put box ws) ≡ true
+put-unused box ws k = unused-put box (put box ws) (put-parts box ws k)
+
+pub put-link : (box : Box) (ws : List ℕ) → Puttable box → linkClear (put box ws) ≡ true
+put-link box ws k = link-put (box .link) (put box ws) (drop 211 (put box ws)) (k .link) (put-parts box ws k .at-206)
+
+pub put-untagged : (box : Box) (ws : List ℕ) → Puttable box → untaggedEmpty (put box ws) ≡ true
+put-untagged box ws k = untagged-put box (put box ws) k (put-parts box ws k)

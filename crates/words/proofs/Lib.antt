@@ -2,3 +2,4 @@
 pub mod Rotation
 pub mod PutContents
 pub mod ContentsPut
+pub mod Counts

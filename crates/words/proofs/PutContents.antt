@@ -186,11 +186,11 @@ two-words : (f : ℕ → ℕ) → f 204 ∷ f 205 ∷ [] ≡ series f 1 204 2
 unfolding series
 two-words f = refl
 
-class-count : (ws : List ℕ) → length (settingsAt ws .factors) ≡ word ws 2
+pub class-count : (ws : List ℕ) → length (settingsAt ws .factors) ≡ word ws 2
 unfolding settingsAt
 class-count ws = length-series (λ i. word ws i) 1 3 (word ws 2)
 
-row-count : (ws : List ℕ) → length (standings ws) ≡ word ws 11
+pub row-count : (ws : List ℕ) → length (standings ws) ≡ word ws 11
 unfolding standings
 row-count ws = length-series (standingAt ws) 6 12 (word ws 11)
 
