@@ -5,3 +5,4 @@ pub mod Quotients
 pub mod Search
 pub mod Sums
 pub mod Turns
+pub mod Series
