@@ -3,3 +3,7 @@ pub mod Tests
 pub mod Lists
 pub mod Search
 pub mod Sums
+pub mod Finding
+pub mod Division
+pub mod SumLaws
+pub mod Gaining

@@ -1,0 +1,5 @@
+-- The theorems about runs.
+pub mod Classes
+pub mod WithoutEnd
+pub mod Saying
+pub mod Admitting
