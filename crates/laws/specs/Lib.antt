@@ -7,3 +7,4 @@ pub mod Finding
 pub mod Division
 pub mod SumLaws
 pub mod Gaining
+pub mod Turns

@@ -1,8 +1,8 @@
 -- Tests that compute: a range, a test at every number or at every element, and what a passed test says.
 use Prim.Native.Nat.{ℕ, zero, suc, _≤_, _<_}
 use mathlib.Core.Path.{_≡_, refl, sym, _∙_}
-use mathlib.Core.Bool.{Bool, true, false, _&&_, and-eq-true-iff, true≢false}
-use mathlib.Core.List.{List, [], _∷_, List·Memᴰ, List·Memᴰ·cases-cons, List·Memᴰ·not-nil}
+use mathlib.Core.Bool.{Bool, true, false, _&&_, _||_, and-eq-true-iff, true≢false}
+use mathlib.Core.List.{List, [], _∷_, _++_, List·Memᴰ, List·Memᴰ·head, List·Memᴰ·tail, List·Memᴰ·cases-cons, List·Memᴰ·append-cases, List·Memᴰ·not-nil}
 use mathlib.Core.Logic.{_⊎_, inl, inr, ⊎-elim}
 use native.Mathlib.Nat.{le-suc-iff, le-of-suc-le-suc, not-suc-le-zero}
 use native.Mathlib.Omega.{arith}
@@ -61,3 +61,27 @@ every-at test [] e m = absurd (List·Memᴰ·not-nil m)
 every-at test (b ∷ l) e {a} m =
     let h = and-eq-true-iff (test b) (every test l) .0 e in
     ⊎-elim (λ (q : a ≡ b). rw q (h .0)) (λ (k : List·Memᴰ a l). every-at test l (h .1) k) (List·Memᴰ·cases-cons m)
+
+pub every-all : {A : Type 0} (test : A → Bool) (l : List A) → ((a : A) → List·Memᴰ a l → test a ≡ true) → every test l ≡ true
+unfolding every
+every-all test [] f = refl
+every-all test (a ∷ l) f =
+    and-eq-true-iff (test a) (every test l) .1
+    (f a (List·Memᴰ·head refl), every-all test l (λ b m. f b (List·Memᴰ·tail m)))
+
+pub every-append : {A : Type 0} (test : A → Bool) (l m : List A) → every test l ≡ true → every test m ≡ true → every test (l ++ m) ≡ true
+every-append test l m e f =
+    every-all test (l ++ m) (λ a k. ⊎-elim (every-at test l e) (every-at test m f) (List·Memᴰ·append-cases l k))
+
+-- one of two tests that passed
+pub or-cases : (a b : Bool) → (a || b) ≡ true → (a ≡ true) ⊎ (b ≡ true)
+or-cases true b e = inl refl
+or-cases false b e = inr e
+
+pub or-left : (a b : Bool) → a ≡ true → (a || b) ≡ true
+or-left true b e = refl
+or-left false b e = absurd (true≢false (sym e))
+
+pub or-right : (a b : Bool) → b ≡ true → (a || b) ≡ true
+or-right true b e = refl
+or-right false b e = e

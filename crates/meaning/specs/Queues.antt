@@ -65,6 +65,11 @@ module _ {A : Type 0} where
   lowestRank [] = none
   lowestRank (p ∷ ps) = earlier p (lowestRank ps)
 
+  -- The chosen packet, without its rank.
+  unfoldable pub packetOf : Option (Ranked A) → Option A
+  packetOf none = none
+  packetOf (some p) = some (p .packet)
+
   -- The waiting packets without the first accepted one of this rank.
   unfoldable pub withoutRank : ℕ → List (Ranked A) → List (Ranked A)
   withoutRank r [] = []
@@ -110,11 +115,6 @@ module _ {A : Type 0} (D : ℕ) where
   byTags (accept r p) s = (accepted, record { slot = s .slot; waiting = joinTail r p (s .waiting) })
   byTags take s = (taken (lowestHead (s .waiting)), record { slot = s .slot; waiting = withoutLowestHead (s .waiting) })
   byTags raise s = raising s (turnAt D (suc (s .slot))) (tagZeroWaits (s .waiting)) (turned (s .waiting))
-
-  -- The packet of a chosen place.
-  unfoldable pub packetOf : Option (Ranked A) → Option A
-  packetOf none = none
-  packetOf (some p) = some (p .packet)
 
   -- A move, said with ranks: nothing turns.
   unfoldable pub byRanks : Move A → At (List (Ranked A)) → Seen A × At (List (Ranked A))
