@@ -3,3 +3,4 @@ pub mod Classes
 pub mod WithoutEnd
 pub mod Saying
 pub mod Admitting
+pub mod Choosing

@@ -8,3 +8,4 @@ pub mod Division
 pub mod SumLaws
 pub mod Gaining
 pub mod Turns
+pub mod Putting
