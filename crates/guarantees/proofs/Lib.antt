@@ -4,3 +4,4 @@ pub mod WithoutEnd
 pub mod Saying
 pub mod Admitting
 pub mod Choosing
+pub mod Backlog

@@ -12,6 +12,19 @@ unfoldable pub given : Bool → ℕ → ℕ
 given true n = n
 given false n = 0
 
+pub given-true : {b : Bool} (n : ℕ) → b ≡ true → given b n ≡ n
+unfolding given
+given-true n e = rw e
+
+pub given-false : {b : Bool} (n : ℕ) → b ≡ false → given b n ≡ 0
+unfolding given
+given-false n e = rw e
+
+pub given-most : (b : Bool) (n : ℕ) → given b n ≤ n
+unfolding given
+given-most true n = omega arith
+given-most false n = omega arith
+
 module _ {A : Type 0} where
   pub sum-same : (f g : A → ℕ) (l : List A) → ((a : A) → List·Memᴰ a l → f a ≡ g a) → sumOf f l ≡ sumOf g l
   unfolding sumOf
