@@ -5,3 +5,4 @@ pub mod Saying
 pub mod Admitting
 pub mod Choosing
 pub mod Backlog
+pub mod Sending
