@@ -6,3 +6,4 @@ pub mod Admitting
 pub mod Choosing
 pub mod Backlog
 pub mod Sending
+pub mod Moves
