@@ -7,3 +7,4 @@ pub mod Choosing
 pub mod Backlog
 pub mod Sending
 pub mod Moves
+pub mod Effects

@@ -9,3 +9,4 @@ pub mod SumLaws
 pub mod Gaining
 pub mod Turns
 pub mod Putting
+pub mod Places
