@@ -8,3 +8,4 @@ pub mod Backlog
 pub mod Sending
 pub mod Moves
 pub mod Effects
+pub mod Known
