@@ -9,3 +9,4 @@ pub mod Sending
 pub mod Moves
 pub mod Effects
 pub mod Known
+pub mod Scheduled
