@@ -10,3 +10,4 @@ pub mod Gaining
 pub mod Turns
 pub mod Putting
 pub mod Places
+pub mod Groups
