@@ -10,3 +10,5 @@ pub mod Moves
 pub mod Effects
 pub mod Known
 pub mod Scheduled
+pub mod Limits
+pub mod Ahead
