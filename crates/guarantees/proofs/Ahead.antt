@@ -30,6 +30,11 @@ unitsIn H j x y = sumOf (λ p. given (eqb (p .connection) j && within x (p .arri
 abbrev pub Conforming : Box → List Packet → Type 0
 Conforming box H = (j : ℕ) → 1 ≤ j → j ≤ length (box .standing) → (x t : ℕ) → unitsIn H j x (x + t) ≤ envelope (connection box j) t
 
+-- There are as many connections as stand.
+pub connections-length : (box : Box) → length (connections box) ≡ length (box .standing)
+unfolding connections
+connections-length box = length-map (box .standing) (λ s. s .asked)
+
 -- The class of the connection of a packet.
 abbrev pub classOf : Box → Packet → ℕ
 classOf box p = connection box (p .connection) .class
@@ -75,3 +80,76 @@ module _ (box : Box) (H : List Packet) (k : Known box H) (conforming : Conformin
               (λ x m. let c = counted j x false (λ e f g. absurd (let h = limit x m (eqb-true _ _ e) f g in omega arith)) in
                 let z = given-false {b = eqb (x .connection) j && false} (x .units) (mathlib.Core.Bool.and-false (eqb (x .connection) j)) in omega arith) in
           omega arith
+
+  -- The limits that the test at T counts with: up to u + T for class 1, and up to u + T + D for the others, less the bound.
+  abbrev pub KeepsLimits : ℕ → Type 0
+  KeepsLimits T =
+      (x : Packet) → List·Memᴰ x H → q x ≡ true → u ≤ x .arrival →
+      ((classOf box x ≡ 1) × (x .arrival + bound (box .settings) (classOf box x) ≤ u + T)) ⊎
+      ((classOf box x ≡ 1 → ⊥) × (x .arrival + bound (box .settings) (classOf box x) ≤ u + (T + box .settings .interval)))
+
+  module _ (T : ℕ) (limits : KeepsLimits T) where
+    -- A connection's part is at most its term of the test at T.
+    part-term : (j : ℕ) → 1 ≤ j → j ≤ length (box .standing) →
+        partOf (λ p. p .connection) brings H j ≤ term (box .settings) T (connection box j)
+    unfolding term
+    part-term j a b = go (eqb (connection box j .class) 1) refl
+      where
+        d : ℕ
+        d = bound (box .settings) (connection box j .class)
+        go : (c : Bool) → eqb (connection box j .class) 1 ≡ c →
+            partOf (λ p. p .connection) brings H j ≤
+            cond c (delayed (envelope (connection box j)) d T) (delayed (envelope (connection box j)) d (T + box .settings .interval))
+        go true e =
+            part-kept j d T a b (λ x m n f g.
+              ⊎-elim (λ (l : (classOf box x ≡ 1) × (x .arrival + bound (box .settings) (classOf box x) ≤ u + T)). rw n at (l .1))
+              (λ (l : (classOf box x ≡ 1 → ⊥) × (x .arrival + bound (box .settings) (classOf box x) ≤ u + (T + box .settings .interval))).
+                absurd (l .0 (rw n (eqb-true _ _ e))))
+              (limits x m f g))
+        go false e =
+            part-kept j d (T + box .settings .interval) a b (λ x m n f g.
+              ⊎-elim (λ (l : (classOf box x ≡ 1) × (x .arrival + bound (box .settings) (classOf box x) ≤ u + T)).
+                absurd (eqb-false _ _ e (rw n at (l .0))))
+              (λ (l : (classOf box x ≡ 1 → ⊥) × (x .arrival + bound (box .settings) (classOf box x) ≤ u + (T + box .settings .interval))). rw n at (l .1))
+              (limits x m f g))
+
+    by-groups : arrivedSince q u H ≡ across (partOf (λ p. p .connection) brings H) 1 (length (box .standing))
+    unfolding arrivedSince brings
+    by-groups =
+        sum-groups (λ p. p .connection) brings H 1 (length (box .standing))
+        (λ x m. let f = k .packets-ok x m in (f .connection-least, let l = f .connection-most in omega arith))
+
+    each : (i : ℕ) → i < length (connections box) → partOf (λ p. p .connection) brings H (1 + i) ≤ term (box .settings) T (getD (connections box) i noConnection)
+    unfolding connection
+    each i b =
+        let e : 1 + i - 1 ≡ i = omega arith in
+        let l = connections-length box in
+        rw e at (part-term (1 + i) (omega arith) (omega arith))
+
+    -- What the packets of q bring in from u on is at most the sum of the test at T.
+    pub ahead-sum : arrivedSince q u H ≤ sumAt (box .settings) (connections box) T
+    unfolding sumAt
+    ahead-sum =
+        let l = connections-length box in
+        let s = across-below (partOf (λ p. p .connection) brings H) (term (box .settings) T) (connections box) noConnection 1 each in
+        let g = by-groups in
+        let e = ap (across (partOf (λ p. p .connection) brings H) 1) l in
+        omega arith
+
+    -- And if a connection brings in nothing while its term is at least s, the sum has s to spare.
+    pub ahead-spare : (j s : ℕ) → 1 ≤ j → j ≤ length (box .standing) → s ≤ term (box .settings) T (connection box j) →
+        ((x : Packet) → List·Memᴰ x H → x .connection ≡ j → q x ≡ true → u ≤ x .arrival → ⊥) →
+        arrivedSince q u H + s ≤ sumAt (box .settings) (connections box) T
+    unfolding sumAt connection partOf
+    ahead-spare j s a b t none =
+        let l = connections-length box in
+        let z = sum-zero (λ p. given (eqb (p .connection) j) (brings p)) H
+            (λ x m. let c = counted j x false (λ e f g. absurd (none x m (eqb-true _ _ e) f g)) in
+              let z = given-false {b = eqb (x .connection) j && false} (x .units) (mathlib.Core.Bool.and-false (eqb (x .connection) j)) in omega arith) in
+        let e : 1 + (j - 1) ≡ j = omega arith in
+        let w : partOf (λ p. p .connection) brings H (1 + (j - 1)) ≡ 0 = rw e z in
+        let r = across-spare (partOf (λ p. p .connection) brings H) (term (box .settings) T) (connections box) noConnection 1 s (j - 1)
+            (omega arith) (omega arith) each in
+        let g = by-groups in
+        let o = ap (across (partOf (λ p. p .connection) brings H) 1) l in
+        omega arith
