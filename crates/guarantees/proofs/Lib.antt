@@ -12,3 +12,4 @@ pub mod Known
 pub mod Scheduled
 pub mod Limits
 pub mod Ahead
+pub mod Enough
