@@ -31,7 +31,7 @@ module _ (box : Box) (H : List Packet) (k : Known box H) (conforming : Conformin
   boundOf x = bound (box .settings) (classOf box x)
 
   -- The connection of an accepted packet stands, and keeps the table of numbers.
-  connection-of : (x : Packet) → List·Memᴰ x H → ConnectionFacts (box .settings) (connection box (x .connection))
+  pub connection-of : (x : Packet) → List·Memᴰ x H → ConnectionFacts (box .settings) (connection box (x .connection))
   connection-of x m = let f = k .packets-ok x m in k .connections-ok _ (connection-member box (x .connection) (f .connection-least) (f .connection-most))
 
   -- The largest s in the way counts every connection whose bound exceeds t + D.
@@ -56,13 +56,13 @@ module _ (box : Box) (H : List Packet) (k : Known box H) (conforming : Conformin
     -- The printed test, at a T whose limits the packets ahead keep: with nothing in the way, with a packet in the way whose bound
     -- exceeds T + D, and with one whose bound does not and whose connection brings in nothing.
     module _ (T : ℕ) (limits : KeepsLimits box H k conforming q u T) (late : u + T < u + rest + arrivedSince q u H) where
-      none-in-the-way : rest ≡ 0 → ⊥
+      pub none-in-the-way : rest ≡ 0 → ⊥
       none-in-the-way e =
           let s = ahead-sum box H k conforming q u T limits in
           let c = condition-facts _ _ T (k .conditions-hold T) .eleven-holds in
           omega arith
 
-      far-in-the-way : (v : Packet) → List·Memᴰ v H → rest < v .units → bound (box .settings) 1 ≤ T → T + box .settings .interval < boundOf v → ⊥
+      pub far-in-the-way : (v : Packet) → List·Memᴰ v H → rest < v .units → bound (box .settings) 1 ≤ T → T + box .settings .interval < boundOf v → ⊥
       far-in-the-way v m r l far =
           let s = ahead-sum box H k conforming q u T limits in
           let f = connection-of v m in
@@ -72,7 +72,7 @@ module _ (box : Box) (H : List Packet) (k : Known box H) (conforming : Conformin
           let p = k .packets-ok v m .units-most in
           omega arith
 
-      near-in-the-way : (v : Packet) → List·Memᴰ v H → rest < v .units → (classOf box v ≡ 1 → ⊥) → boundOf v ≤ T + box .settings .interval →
+      pub near-in-the-way : (v : Packet) → List·Memᴰ v H → rest < v .units → (classOf box v ≡ 1 → ⊥) → boundOf v ≤ T + box .settings .interval →
           ((x : Packet) → List·Memᴰ x H → x .connection ≡ v .connection → q x ≡ true → u ≤ x .arrival → ⊥) → ⊥
       near-in-the-way v m r n near none =
           let f = k .packets-ok v m in

@@ -13,3 +13,4 @@ pub mod Scheduled
 pub mod Limits
 pub mod Ahead
 pub mod Enough
+pub mod Deadline
