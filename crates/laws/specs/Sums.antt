@@ -1,6 +1,9 @@
 -- Sums and largest values over a list, of what a function gives for each element.
-use Prim.Native.Nat.{ℕ, _+_, max}
-use mathlib.Core.List.{List, [], _∷_}
+use Prim.Native.Nat.{ℕ, suc, _+_, _≤_, max}
+use mathlib.Core.Path.{_≡_, refl, ap}
+use mathlib.Core.List.{List, [], _∷_, _++_}
+use native.Mathlib.Omega.{arith}
+use lib.ListN.{length}
 
 -- the sum of f over the list
 unfoldable pub sumOf : {A : Type 0} → (A → ℕ) → List A → ℕ
@@ -11,3 +14,20 @@ sumOf f (a ∷ l) = f a + sumOf f l
 unfoldable pub largestOf : {A : Type 0} → (A → ℕ) → List A → ℕ
 largestOf f [] = 0
 largestOf f (a ∷ l) = max (f a) (largestOf f l)
+
+pub sum-append : {A : Type 0} (f : A → ℕ) (l m : List A) → sumOf f (l ++ m) ≡ sumOf f l + sumOf f m
+unfolding sumOf
+sum-append f [] m = omega arith
+sum-append f (a ∷ l) m = let e = sum-append f l m in omega arith
+
+-- where each element gives at least one, the sum is at least the length
+pub length-sum : {A : Type 0} (f : A → ℕ) (l : List A) → ((a : A) → 1 ≤ f a) → length l ≤ sumOf f l
+unfolding sumOf
+length-sum f [] h = omega arith
+length-sum f (a ∷ l) h = let e = length-sum f l h in let k = h a in omega arith
+
+-- a sum of sums, element by element
+pub sum-add : {A : Type 0} (f g h : A → ℕ) (l : List A) → ((a : A) → h a ≡ f a + g a) → sumOf h l ≡ sumOf f l + sumOf g l
+unfolding sumOf
+sum-add f g h [] e = omega arith
+sum-add f g h (a ∷ l) e = let i = sum-add f g h l e in let k = e a in omega arith

@@ -6,8 +6,9 @@ use mathlib.Core.List.{List, [], _∷_, _++_, List·Memᴰ, List·Memᴰ·head, 
 use mathlib.Core.Logic.{_⊎_, inl, inr, ⊎-elim}
 use native.Mathlib.Nat.{le-suc-iff, le-of-suc-le-suc, not-suc-le-zero}
 use native.Mathlib.Omega.{arith}
+use lib.ListN.{length, getD, set}
 use lib.Dec.{leb}
-use borrow.Author.Tests.{leb-true, le-leb}
+use borrow.Author.Tests.{leb-true, le-leb, lt-leb}
 
 -- x is low to high, both ends included
 unfoldable pub within : ℕ → ℕ → ℕ → Bool
@@ -85,3 +86,22 @@ or-left false b e = absurd (true≢false (sym e))
 pub or-right : (a b : Bool) → b ≡ true → (a || b) ≡ true
 or-right true b e = refl
 or-right false b e = e
+
+-- a test that holds of every element holds after one is replaced by an element that passes
+pub every-set : {A : Type 0} (test : A → Bool) (l : List A) (i : ℕ) (a : A) → every test l ≡ true → test a ≡ true → every test (set l i a) ≡ true
+unfolding every
+every-set test [] i a e f = e
+every-set test (b ∷ l) zero a e f = and-eq-true-iff (test a) (every test l) .1 (f, and-eq-true-iff (test b) (every test l) .0 e .1)
+every-set test (b ∷ l) (suc i) a e f =
+    let h = and-eq-true-iff (test b) (every test l) .0 e in
+    and-eq-true-iff (test b) (every test (set l i a)) .1 (h .0, every-set test l i a (h .1) f)
+
+pub within-below : (low x high : ℕ) → x < low → within low x high ≡ false
+unfolding within
+within-below low x high h = rw (lt-leb low x h) refl
+
+-- two tests that pass together are the same
+pub same-test : (a b : Bool) → (a ≡ true → b ≡ true) → (b ≡ true → a ≡ true) → a ≡ b
+same-test true b f g = sym (f refl)
+same-test false true f g = g refl
+same-test false false f g = refl

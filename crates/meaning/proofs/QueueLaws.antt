@@ -78,7 +78,7 @@ module _ {A : Type 0} where
   nothing-taken ((x ∷ q) ∷ qs) e = absurd (let z : _≡_ {A = ℕ} 0 1 = cc in omega arith)
 
   -- Turning.
-  flatten-last : (qs : List (List A)) (q : List A) → flatten (qs ++ (q ∷ [])) ≡ flatten qs ++ q
+  pub flatten-last : (qs : List (List A)) (q : List A) → flatten (qs ++ (q ∷ [])) ≡ flatten qs ++ q
   unfolding flatten
   flatten-last [] q = append-nil q
   flatten-last (r ∷ qs) q = ap (λ (l : List A). r ++ l) (flatten-last qs q) ∙ sym (append-assoc r (flatten qs) q)

@@ -16,7 +16,7 @@ use Rattle.meaning.specs.Queues.{Ranked, Move, accept, take, raise, Seen
 use Rattle.meaning.proofs.Layers.{only, layers, Between, layers-append, layers-turned, queue-waits, rank-waits-not, above-empty, same-choice, same-rest, chosen-member}
 
 -- The test of the turn at the next slot is that of a multiple of D.
-turn-test : (D n : ℕ) → turnAt D (suc n) ≡ eqb (suc n % D) 0
+pub turn-test : (D n : ℕ) → turnAt D (suc n) ≡ eqb (suc n % D) 0
 unfolding turnAt
 turn-test D n = rw (lt-ltb 0 (suc n) (omega arith)) refl
 
