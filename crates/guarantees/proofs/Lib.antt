@@ -14,3 +14,4 @@ pub mod Limits
 pub mod Ahead
 pub mod Enough
 pub mod Deadline
+pub mod Stretches

@@ -1,7 +1,7 @@
 -- A run: any list of admissions, offers and steps from a new box, refused ones among them, and the history that its own calls and
 -- answers tell.
 use Prim.Native.Nat.{ℕ, suc}
-use mathlib.Core.Bool.{Bool, true, _&&_, _||_, not}
+use mathlib.Core.Bool.{Bool, true, cond, _&&_, _||_, not}
 use mathlib.Core.List.{List, [], _∷_, _++_}
 use lib.Dec.{eqb, ltb}
 use Rattle.laws.specs.Tests.{every}
@@ -74,6 +74,11 @@ packetTaken slot (offer n units) (toOffer a) = offerTaken slot n units a
 unfoldable pub acceptedIn : List Event → List Packet
 acceptedIn [] = []
 acceptedIn (e ∷ es) = packetTaken (e .slot) (e .call) (e .answer) ++ acceptedIn es
+
+-- The slots at which packets of connection n were accepted, the last accepted first.
+unfoldable pub slotsOf : ℕ → List Packet → List ℕ
+slotsOf n [] = []
+slotsOf n (p ∷ ps) = slotsOf n ps ++ cond (eqb (p .connection) n) (p .arrival ∷ []) []
 
 -- A reported departure: serial, connection, arrival and departure.
 pub record Departure : Type 0 where
