@@ -67,9 +67,9 @@ series-same f g step start other (suc n) h =
     let first : f start ≡ g other = ap f (sym a) ∙ h 0 (omega arith) ∙ ap g b in
     ap (λ x. x ∷ series f step (start + step) n) first ∙ ap (λ l. g other ∷ l)
     (series-same f g step (start + step) (other + step) n (λ i k.
-      (let s : start + step + step * i ≡ start + step * suc i = omega arith in
-      let t : other + step + step * i ≡ other + step * suc i = omega arith in
-      ap f s ∙ h (suc i) (omega arith) ∙ ap g (sym t)))))
+    (let s : start + step + step * i ≡ start + step * suc i = omega arith in
+    let t : other + step + step * i ≡ other + step * suc i = omega arith in
+    ap f s ∙ h (suc i) (omega arith) ∙ ap g (sym t)))))
 
 -- a list is its own values, read one after another
 pub series-take : (l : List ℕ) (start n : ℕ) → start + n ≤ length l → series (λ i. getD l i 0) 1 start n ≡ take n (drop start l)
@@ -158,7 +158,7 @@ series-self {A} l d =
     (let f : ℕ → A = λ i. getD l i d in
     let n = length-series f 1 0 (length l) in
     ext-getD d (series f 1 0 (length l)) l n (λ i h.
-      (let e : 0 + 1 * i ≡ i = omega arith in getD-series f 1 0 (length l) i d (rw n at h) ∙ ap f e)))
+    (let e : 0 + 1 * i ≡ i = omega arith in getD-series f 1 0 (length l) i d (rw n at h) ∙ ap f e)))
 
 pub every-zeros : (n : ℕ) → every (λ w. eqb w 0) (replicate n 0) ≡ true
 unfolding every
@@ -196,12 +196,12 @@ sumBelow-zeros f m (suc n) h =
 pub sumBelow-turned : (f : ℕ → ℕ) (size turns : ℕ) → 0 < size → sumBelow (λ k. f ((turns + k) % size)) size ≡ sumBelow f size
 sumBelow-turned f size zero h =
     sumBelow-same (λ k. f ((0 + k) % size)) f size (λ k l.
-      (let e : 0 + k ≡ k = omega arith in ap (λ n. f (n % size)) e ∙ ap f (mod-eq-of-lt l)))
+    (let e : 0 + k ≡ k = omega arith in ap (λ n. f (n % size)) e ∙ ap f (mod-eq-of-lt l)))
 sumBelow-turned f size (suc turns) h =
     (let g : ℕ → ℕ = λ k. f ((turns + k) % size) in
     let a : sumBelow (λ k. f ((suc turns + k) % size)) size ≡ sumBelow (λ k. g (suc k)) size =
     sumBelow-same (λ k. f ((suc turns + k) % size)) (λ k. g (suc k)) size (λ k l.
-      (let e : suc turns + k ≡ turns + suc k = omega arith in ap (λ n. f (n % size)) e)) in
+    (let e : suc turns + k ≡ turns + suc k = omega arith in ap (λ n. f (n % size)) e)) in
     let z : turns + 0 ≡ turns = omega arith in
     let b : g size ≡ g 0 = ap f (add-mod-right turns size ∙ ap (λ n. n % size) (sym z)) in
     let s : sumBelow (λ k. g (suc k)) size ≡ sumBelow g size = omega (arith, sumBelow-shift g size, b) in
@@ -220,5 +220,11 @@ unfolding sumBelow
 length-flatten f zero = flatten-none f
 length-flatten f (suc n) =
     (let e : 0 + 1 * n ≡ n = omega arith in
-    rw (series-last f 1 0 n, e, flatten-append (series f 1 0 n) (f n ∷ []), flatten-one (f n), length-append (flatten (series f 1 0 n)) (f n),
-      length-flatten f n))
+    rw (
+      series-last f 1 0 n,
+      e,
+      flatten-append (series f 1 0 n) (f n ∷ []),
+      flatten-one (f n),
+      length-append (flatten (series f 1 0 n)) (f n),
+      length-flatten f n,
+    ))

@@ -1,0 +1,2 @@
+-- What the theorems about runs speak of.
+pub mod Runs

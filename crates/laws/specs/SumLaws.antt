@@ -1,0 +1,94 @@
+-- Laws of sums and of largest values over a list.
+use Prim.Native.Nat.{ℕ, zero, suc, _+_, _*_, _≤_, _<_, max}
+use mathlib.Core.Path.{_≡_, refl, sym, _∙_, ap}
+use mathlib.Core.Bool.{Bool, true, false, cond}
+use mathlib.Core.List.{List, [], _∷_, _++_, List·Memᴰ, List·Memᴰ·head, List·Memᴰ·tail}
+use native.Mathlib.Nat.{add-assoc, zero-add}
+use native.Mathlib.Omega.{arith}
+use Rattle.laws.specs.Sums.{sumOf, largestOf}
+
+-- the number where the test passes, else 0
+unfoldable pub given : Bool → ℕ → ℕ
+given true n = n
+given false n = 0
+
+pub given-true : {b : Bool} (n : ℕ) → b ≡ true → given b n ≡ n
+unfolding given
+given-true n e = rw e
+
+pub given-false : {b : Bool} (n : ℕ) → b ≡ false → given b n ≡ 0
+unfolding given
+given-false n e = rw e
+
+pub given-most : (b : Bool) (n : ℕ) → given b n ≤ n
+unfolding given
+given-most true n = omega arith
+given-most false n = omega arith
+
+module _ {A : Type 0} where
+  pub sum-same : (f g : A → ℕ) (l : List A) → ((a : A) → List·Memᴰ a l → f a ≡ g a) → sumOf f l ≡ sumOf g l
+  unfolding sumOf
+  sum-same f g [] h = refl
+  sum-same f g (a ∷ l) h =
+      let x = h a (List·Memᴰ·head refl) in
+      let y = sum-same f g l (λ b m. h b (List·Memᴰ·tail m)) in
+      omega arith
+
+  pub sum-mono : (f g : A → ℕ) (l : List A) → ((a : A) → List·Memᴰ a l → f a ≤ g a) → sumOf f l ≤ sumOf g l
+  unfolding sumOf
+  sum-mono f g [] h = omega arith
+  sum-mono f g (a ∷ l) h =
+      let x = h a (List·Memᴰ·head refl) in
+      let y = sum-mono f g l (λ b m. h b (List·Memᴰ·tail m)) in
+      omega arith
+
+  pub sum-add : (f g : A → ℕ) (l : List A) → sumOf (λ a. f a + g a) l ≡ sumOf f l + sumOf g l
+  unfolding sumOf
+  sum-add f g [] = refl
+  sum-add f g (a ∷ l) = let y = sum-add f g l in omega arith
+
+  pub sum-append : (f : A → ℕ) (l m : List A) → sumOf f (l ++ m) ≡ sumOf f l + sumOf f m
+  unfolding sumOf
+  sum-append f [] m = omega arith
+  sum-append f (a ∷ l) m = let y = sum-append f l m in omega arith
+
+  pub sum-one : (f : A → ℕ) (a : A) → sumOf f (a ∷ []) ≡ f a
+  unfolding sumOf
+  sum-one f a = omega arith
+
+  -- a member's part is at most the sum
+  pub sum-member : (f : A → ℕ) (l : List A) {a : A} → List·Memᴰ a l → f a ≤ sumOf f l
+  unfolding sumOf
+  sum-member f (x ∷ l) {a} (List·Memᴰ·head e) = let y : f a ≡ f x = ap f e in omega arith
+  sum-member f (x ∷ l) (List·Memᴰ·tail m) = let y = sum-member f l m in omega arith
+
+  -- a sum of nothing
+  pub sum-zero : (f : A → ℕ) (l : List A) → ((a : A) → List·Memᴰ a l → f a ≡ 0) → sumOf f l ≡ 0
+  unfolding sumOf
+  sum-zero f [] h = refl
+  sum-zero f (a ∷ l) h =
+      let x = h a (List·Memᴰ·head refl) in
+      let y = sum-zero f l (λ b m. h b (List·Memᴰ·tail m)) in
+      omega arith
+
+  -- a member's value is at most the largest
+  pub largest-member : (f : A → ℕ) (l : List A) {a : A} → List·Memᴰ a l → f a ≤ largestOf f l
+  unfolding largestOf
+  largest-member f (x ∷ l) {a} (List·Memᴰ·head e) = let y : f a ≡ f x = ap f e in omega arith
+  largest-member f (x ∷ l) (List·Memᴰ·tail m) = let y = largest-member f l m in omega arith
+
+  -- putting one more in makes neither smaller
+  pub sum-put : (f : A → ℕ) (l : List A) (a : A) (m : List A) → sumOf f (l ++ m) ≤ sumOf f (l ++ (a ∷ m))
+  unfolding sumOf
+  sum-put f [] a m = omega arith
+  sum-put f (x ∷ l) a m = let y = sum-put f l a m in omega arith
+
+  pub largest-put : (f : A → ℕ) (l : List A) (a : A) (m : List A) → largestOf f (l ++ m) ≤ largestOf f (l ++ (a ∷ m))
+  unfolding largestOf
+  largest-put f [] a m = omega arith
+  largest-put f (x ∷ l) a m = let y = largest-put f l a m in omega arith
+
+  pub largest-append : (f : A → ℕ) (l m : List A) → largestOf f l ≤ largestOf f (l ++ m)
+  unfolding largestOf
+  largest-append f [] m = omega arith
+  largest-append f (x ∷ l) m = let y = largest-append f l m in omega arith
