@@ -33,7 +33,7 @@ rising-weaker low lower (n ∷ ns) h e =
     and-eq-true-iff (ltb lower n) (risingAbove n ns) .1 (borrow.Author.Tests.lt-ltb lower n (omega arith), a .1)
 
 -- The serials of a queue rise.
-abbrev rises : List Packet → Bool
+abbrev pub rises : List Packet → Bool
 rises q = risingAbove 0 (map (λ p. p .serial) q)
 
 rises-without : (qs : List (List Packet)) → every rises qs ≡ true → every rises (withoutLowestHead qs) ≡ true
@@ -46,15 +46,15 @@ rises-without ((p ∷ q) ∷ qs) e =
     and-eq-true-iff (rises q) (every rises qs) .1 (rising-weaker (p .serial) 0 (map (λ p. p .serial) q) (omega arith) (b .1), a .1)
 
 -- What holds once the link, if free, has taken a packet.
-record Taken (box : Box) (link : Link) (queues : List (List Packet)) : Type 0 where
-  count : length queues ≡ length (box .queues)
-  placed : tagged (inPlace box) 0 queues ≡ true
-  rising : every rises queues ≡ true
-  waits : (p : Packet) → List·Memᴰ p (flatten queues) → List·Memᴰ p (packets box)
-  fewer : length (flatten queues) ≤ length (waiting box)
-  same-number : length (flatten queues) + length (onLink link) ≡ length (packets box)
-  carried : (p : Packet) → List·Memᴰ p (onLink link) → List·Memᴰ p (packets box)
-  left-within : (p : Packet) (left : ℕ) → link ≡ carries p left → (1 ≤ left) × (left ≤ p .units)
+pub record Taken (box : Box) (link : Link) (queues : List (List Packet)) : Type 0 where
+  pub count : length queues ≡ length (box .queues)
+  pub placed : tagged (inPlace box) 0 queues ≡ true
+  pub rising : every rises queues ≡ true
+  pub waits : (p : Packet) → List·Memᴰ p (flatten queues) → List·Memᴰ p (packets box)
+  pub fewer : length (flatten queues) ≤ length (waiting box)
+  pub same-number : length (flatten queues) + length (onLink link) ≡ length (packets box)
+  pub carried : (p : Packet) → List·Memᴰ p (onLink link) → List·Memᴰ p (packets box)
+  pub left-within : (p : Packet) (left : ℕ) → link ≡ carries p left → (1 ≤ left) × (left ≤ p .units)
 
 module _ (box : Box) (facts : SoundFacts box) where
   placed-now : tagged (inPlace box) 0 (box .queues) ≡ true
@@ -114,7 +114,7 @@ module _ (box : Box) (facts : SoundFacts box) where
         left-within = λ x l g. let i : p ≡ x = cc in let j : p .units ≡ l = cc in (let u = f .units-least in omega arith, subst (λ y. l ≤ y .units) i (omega arith));
       }
 
-  taken : Taken box (linkTaken (box .link) (box .queues)) (queuesTaken (box .link) (box .queues))
+  pub taken : Taken box (linkTaken (box .link) (box .queues)) (queuesTaken (box .link) (box .queues))
   unfolding linkTaken queuesTaken loaded
   taken = by-link (box .link) refl
     where
@@ -287,7 +287,7 @@ module _ (box : Box) (facts : SoundFacts box) (before-end : box .counter < lastS
         })
 
 -- An answer that is no refusal moves the box.
-sent-moves : (box : Box) (departure : ℕ) (link : Link) → afterStep box (sentAnswer departure link) ≡ moved box
+pub sent-moves : (box : Box) (departure : ℕ) (link : Link) → afterStep box (sentAnswer departure link) ≡ moved box
 unfolding afterStep sentAnswer
 sent-moves box departure free = refl
 sent-moves box departure (carries p left) = go (leb left 1)

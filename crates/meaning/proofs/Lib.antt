@@ -1,5 +1,6 @@
 -- What is proved of the definitions.
 pub mod Allowances
+pub mod ArrivalSums
 pub mod Computed
 pub mod Decimal
 pub mod EitherSide
@@ -9,9 +10,12 @@ pub mod KeptByAdmission
 pub mod KeptByOffer
 pub mod KeptByStep
 pub mod Layers
+pub mod LinesMost
 pub mod QueueLaws
 pub mod Readings
 pub mod RecordFits
+pub mod RunFits
 pub mod SlotsEnough
 pub mod TagsAndRanks
+pub mod TextMost
 pub mod WorkedRun

@@ -23,6 +23,7 @@ use Rattle.meaning.specs.Calls.{newBox, withStanding, admissionAnswer, a
 use Rattle.meaning.specs.Step.{loaded, linkTaken, queuesTaken, linkSent, turnDue, stepAnswer, queuesStepped, moved, afterStep}
 use Rattle.meaning.specs.Plan.{Plan, Arrival}
 use Rattle.meaning.specs.Run.{Line, AfterOffers, Phase, going, ended, stopped, admitAll, numberOf, offerAll, departures, finished, phase, slots, slotsEnough}
+use Rattle.meaning.proofs.ArrivalSums.{from, next-slot, from-start}
 use Rattle.meaning.proofs.QueueLaws.{nothing-waits, nothing-taken, flatten-last, empty-flatten}
 
 -- What is left to send of a packet that waits, and one more.
@@ -141,48 +142,9 @@ offers-weight numbers (a ∷ l) box =
     let w = rest .least in
     record { counter-stays = rest .counter-stays ∙ one .counter-stays; most = omega arith; least = omega arith }
 
--- The arrivals from a slot on, and those of that slot.
-from : ℕ → List (Placed Arrival) → ℕ
-from slot l = sumOf (λ a. cond (leb slot (a .entry .slot)) (arrivalSize a) 0) l
-
-kept-sum : (slot : ℕ) (l : List (Placed Arrival))
-    → sumOf arrivalSize (keep (λ a. eqb (a .entry .slot) slot) l) ≡ sumOf (λ a. cond (eqb (a .entry .slot) slot) (arrivalSize a) 0) l
-unfolding keep sumOf
-kept-sum slot [] = refl
-kept-sum slot (a ∷ l) = go (eqb (a .entry .slot) slot) (kept-sum slot l)
-  where
-    go : (b : Bool) → sumOf arrivalSize (keep (λ a. eqb (a .entry .slot) slot) l) ≡ sumOf (λ a. cond (eqb (a .entry .slot) slot) (arrivalSize a) 0) l
-        → sumOf arrivalSize (cond b (a ∷ keep (λ a. eqb (a .entry .slot) slot) l) (keep (λ a. eqb (a .entry .slot) slot) l))
-        ≡ cond b (arrivalSize a) 0 + sumOf (λ a. cond (eqb (a .entry .slot) slot) (arrivalSize a) 0) l
-    go true e = ap (λ n. arrivalSize a + n) e
-    go false e = omega arith
-
-next-slot : (slot : ℕ) (l : List (Placed Arrival)) → from slot l ≡ sumOf arrivalSize (keep (λ a. eqb (a .entry .slot) slot) l) + from (suc slot) l
-unfolding from
-next-slot slot l =
-    sum-add (λ a. cond (eqb (a .entry .slot) slot) (arrivalSize a) 0) (λ a. cond (leb (suc slot) (a .entry .slot)) (arrivalSize a) 0)
-    (λ a. cond (leb slot (a .entry .slot)) (arrivalSize a) 0) l (λ a. split (a .entry .slot) (arrivalSize a)) ∙
-    ap (λ n. n + sumOf (λ a. cond (leb (suc slot) (a .entry .slot)) (arrivalSize a) 0) l) (sym (kept-sum slot l))
-  where
-    split : (s n : ℕ) → cond (leb slot s) n 0 ≡ cond (eqb s slot) n 0 + cond (leb (suc slot) s) n 0
-    split s n =
-        ⊎-elim
-        (λ (e : eqb s slot ≡ true).
-        let q = eqb-true s slot e in
-        rw (e, le-leb slot s (omega arith), lt-leb (suc slot) s (omega arith)) (omega arith))
-        (λ (e : eqb s slot ≡ false).
-        ⊎-elim
-        (λ (t : leb (suc slot) s ≡ true). let l = leb-true (suc slot) s t in rw (e, t, le-leb slot s (omega arith)) (omega arith))
-        (λ (f : leb (suc slot) s ≡ false).
-        let l = leb-false (suc slot) s f in
-        let d : mathlib.Core.Logic._≢_ s slot = eqb-false s slot e in
-        rw (e, f, lt-leb slot s (omega arith)) (omega arith))
-        (bool-cases (leb (suc slot) s)))
-        (bool-cases (eqb s slot))
-
 -- What falls with every slot: the slots up to the last arrival, the arrivals to come and what is left to send.
 potential : List (Placed Arrival) → Box → ℕ
-potential l box = suc (largestOf (λ a. a .entry .slot) l) - box .counter + from (box .counter) l + weight box
+potential l box = suc (largestOf (λ a. a .entry .slot) l) - box .counter + from arrivalSize (box .counter) l + weight box
 
 -- A run that is not finished has an arrival to come or something to send.
 some-to-come : (slot : ℕ) (l : List (Placed Arrival)) → every (λ a. ltb (a .entry .slot) slot) l ≡ false → slot ≤ largestOf (λ a. a .entry .slot) l
@@ -234,8 +196,8 @@ falls numbers l box f =
     let m = o .most in
     let k = o .least in
     let s : weight (moved after) ≤ weight after - 1 = step-weight after in
-    let n = next-slot (box .counter) l in
-    let e : from (suc (after .counter)) l ≡ from (suc (box .counter)) l = ap (λ x. from (suc x) l) c in
+    let n = next-slot arrivalSize (box .counter) l in
+    let e : from arrivalSize (suc (after .counter)) l ≡ from arrivalSize (suc (box .counter)) l = ap (λ x. from arrivalSize (suc x) l) c in
     ⊎-elim (λ h. omega arith) (λ h. omega arith) (not-finished l box f)
 
 -- A refused step, or a run at its end, needs no more slots than one.
@@ -311,15 +273,10 @@ new-weight : (opening : Settings) → weight (newBox opening) ≡ 0
 unfolding weight newBox emptyQueues linkWeight
 new-weight opening = let e = ap (sumOf size) (empty-flatten {A = Packet} (suc (largestFactor opening))) ∙ no-size in omega arith
 
-from-start : (l : List (Placed Arrival)) → from 0 l ≡ sumOf arrivalSize l
-unfolding from sumOf
-from-start [] = refl
-from-start (a ∷ l) = let e = from-start l in rw (leb·zero (a .entry .slot)) (ap (λ n. arrivalSize a + n) e)
-
 start-potential : (l : List (Placed Arrival)) (box : Box) → box .counter ≡ 0 → weight box ≡ 0 → potential l box < slotsEnough l
 unfolding potential slotsEnough
 start-potential l box c w =
-    let e : from (box .counter) l ≡ sumOf arrivalSize l = ap (λ n. from n l) c ∙ from-start l in
+    let e : from arrivalSize (box .counter) l ≡ sumOf arrivalSize l = ap (λ n. from arrivalSize n l) c ∙ from-start arrivalSize l in
     omega arith
 
 -- `slotsEnough` slots are enough for the run of any plan: with any number of slots more it has the same lines.
