@@ -15,3 +15,5 @@ pub mod Ahead
 pub mod Enough
 pub mod Deadline
 pub mod Stretches
+pub mod Records
+pub mod Metered
