@@ -3,7 +3,8 @@
 use Prim.Native.Nat.{ℕ, zero, suc, _+_, _-_, _≤_, _<_}
 use mathlib.Core.Path.{_≡_, refl, sym, _∙_, ap}
 use mathlib.Core.Bool.{Bool, true, false, cond}
-use mathlib.Core.List.{List, [], _∷_, _++_, map, flatten, List·Memᴰ}
+use mathlib.Core.List.{List, [], _∷_, _++_, map, flatten, List·Memᴰ, List·Memᴰ·not-nil}
+use mathlib.Core.Logic.{_⊎_, inl, inr}
 use mathlib.Core.Option.{Option, none, some}
 use lib.Dec.{leb}
 use lib.ListN.{length, getD, length-map}
@@ -16,12 +17,13 @@ use Rattle.meaning.specs.Numbers.{Connection, factor, largestFactor}
 use Rattle.meaning.specs.Box.{Box, Standing, Packet, Link, free, carries, connections, connection, noConnection, stands, waiting, sound}
 use Rattle.meaning.specs.Queues.{turned, lowestHead, withoutLowestHead}
 use Rattle.meaning.specs.Calls.{afterOffer, joined}
-use Rattle.meaning.specs.Step.{loaded, linkTaken, queuesTaken, turnDue, queuesStepped, moved}
+use Rattle.meaning.specs.Step.{loaded, linkTaken, queuesTaken, linkSent, turnDue, queuesStepped, moved}
 use Rattle.meaning.proofs.Facts.{SettingsFacts, settings-facts, ConnectionFacts, SoundFacts, sound-facts}
 use Rattle.meaning.proofs.QueueLaws.{lowest-member, without-member, nothing-waits, nothing-taken}
 use Rattle.guarantees.proofs.Classes.{factor-most}
 use Rattle.guarantees.proofs.Admitting.{standing-facts}
 use Rattle.guarantees.proofs.Choosing.{join-put, head-put, turned-same, Before, chosen-goes-first}
+use Rattle.guarantees.proofs.Sending.{sent-is}
 use Rattle.guarantees.proofs.Moves.{newPacket}
 
 -- What the connection of a standing number asked for is among the connections that stand.
@@ -80,3 +82,23 @@ stepped-same box = go (turnDue box)
         (flatten (cond b (turned (queuesTaken (box .link) (box .queues))) (queuesTaken (box .link) (box .queues))))
     go true = turned-same (queuesTaken (box .link) (box .queues))
     go false = same-refl _
+
+-- A packet is in the box: it waits or is on the link.
+abbrev pub InBox : Box → Packet → Type 0
+InBox box p = List·Memᴰ p (waiting box) ⊎ ((left : ℕ) × (box .link ≡ carries p left))
+
+module _ (box : Box) where
+  -- A packet that a step takes was in the box.
+  pub taken-in-box : {l : Link} {W : List Packet} → Taking box l W → (p : Packet) (left : ℕ) → l ≡ carries p left → InBox box p
+  taken-in-box (nothing e) p left h = absurd (let z : _≡_ {A = ℕ} 0 1 = cc in omega arith)
+  taken-in-box (takes x W e put there others first) p left h = let y : p ≡ x = cc in rw y (inl there)
+  taken-in-box (carrying x l e) p left h = let y : p ≡ x = cc in inr (l, rw y e)
+
+  -- So was a packet that is in the box after the step.
+  pub in-box-before : {l : Link} {W : List Packet} → Taking box l W → (x : Packet) → List·Memᴰ x W ⊎ ((left : ℕ) × (linkSent l ≡ carries x left)) → InBox box x
+  in-box-before (nothing e) x (inl m) = absurd (List·Memᴰ·not-nil m)
+  in-box-before (takes p W e put there others first) x (inl m) = inl (others x m)
+  in-box-before (carrying p l e) x (inl m) = inl m
+  in-box-before (nothing e) x (inr c) = let h = c .1 in absurd (let z : _≡_ {A = ℕ} 0 1 = unfold linkSent in cc in omega arith)
+  in-box-before (takes p W e put there others first) x (inr c) = rw (sent-is p (p .units) x (c .0) (c .1)) (inl there)
+  in-box-before (carrying p l e) x (inr c) = inr (l, rw (sent-is p l x (c .0) (c .1)) e)

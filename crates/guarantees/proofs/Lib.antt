@@ -17,3 +17,4 @@ pub mod Deadline
 pub mod Stretches
 pub mod Records
 pub mod Metered
+pub mod OnTime

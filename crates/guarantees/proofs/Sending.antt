@@ -25,6 +25,12 @@ sent-cases p left = go (leb left 1) refl
     go true e = inl (leb-true left 1 e, refl)
     go false e = inr (leb-false left 1 e, refl)
 
+-- The packet that a sent unit leaves on the link is the one that was there.
+pub sent-is : (p : Packet) (l : ℕ) (x : Packet) (left : ℕ) → linkSent (carries p l) ≡ carries x left → x ≡ p
+sent-is p l x left h =
+    ⊎-elim (λ (c : (l ≤ 1) × (linkSent (carries p l) ≡ free)). absurd (let i = c .1 in let z : _≡_ {A = ℕ} 0 1 = cc in omega arith))
+    (λ (c : (2 ≤ l) × (linkSent (carries p l) ≡ carries p (l - 1))). let i = c .1 in cc) (sent-cases p l)
+
 module _ (q : Packet → Bool) where
   -- The packet that is taken for a free link is of q if a packet of q waits, so the fact is kept.
   pub take-keeps : (slot : ℕ) (W W₁ : List Packet) (H : List Packet) (p : Packet) → Put p W₁ W → List·Memᴰ p W →
@@ -90,9 +96,7 @@ module _ (q : Packet → Bool) where
         begun = (let k = b .begun in omega arith);
         account = (let s = same .sums (λ p. given (q p) (p .units)) in let w = sent-work p left h .0 in let a = b .account in omega arith);
         waits = λ x m e. b .waits x (same .parts x m) e;
-        carried = λ x l k e. ⊎-elim (λ (c : (left ≤ 1) × (linkSent (carries p left) ≡ free)). absurd (let g = c .1 in let z : _≡_ {A = ℕ} 0 1 = cc in omega arith))
-          (λ (c : (2 ≤ left) × (linkSent (carries p left) ≡ carries p (left - 1))). let g = c .1 in let y : x ≡ p = cc in
-            rw y (b .carried p left refl (rw y at e))) (sent-cases p left);
+        carried = λ x l k e. let y = sent-is p left x l k in rw y (b .carried p left refl (rw y at e));
         way = b .way;
       })
 
