@@ -51,7 +51,7 @@ accepted-put box s n units e =
 -- How a step finds the packet that it sends: none waits and the link is free, the link is free and the packet that goes first is
 -- taken, or the link carries one. The indices are the link and those that wait then.
 pub data Taking (box : Box) : Link → List Packet → Type 0 where
-  nothing : box .link ≡ free → Taking box free []
+  nothing : box .link ≡ free → waiting box ≡ [] → Taking box free []
   takes : (p : Packet) (W : List Packet) → box .link ≡ free → Put p W (waiting box) → List·Memᴰ p (waiting box) →
       ((x : Packet) → List·Memᴰ x W → List·Memᴰ x (waiting box)) → ((x : Packet) → List·Memᴰ x W → Before box p x) →
       Taking box (carries p (p .units)) W
@@ -64,7 +64,7 @@ taking box s = go (box .link) refl
     from-free : box .link ≡ free → (o : Option Packet) → lowestHead (box .queues) ≡ o → Taking box (loaded o) (flatten (withoutLowestHead (box .queues)))
     from-free l none e =
         unfold loaded in
-        rw (nothing-taken (box .queues) e, nothing-waits (box .queues) e) (nothing l)
+        rw (nothing-taken (box .queues) e, nothing-waits (box .queues) e) (nothing l (unfold waiting in nothing-waits (box .queues) e))
     from-free l (some p) e =
         unfold loaded waiting in
         takes p (flatten (withoutLowestHead (box .queues))) l (head-put p (box .queues) e) (lowest-member (box .queues) p e)
@@ -90,15 +90,15 @@ InBox box p = List·Memᴰ p (waiting box) ⊎ ((left : ℕ) × (box .link ≡ c
 module _ (box : Box) where
   -- A packet that a step takes was in the box.
   pub taken-in-box : {l : Link} {W : List Packet} → Taking box l W → (p : Packet) (left : ℕ) → l ≡ carries p left → InBox box p
-  taken-in-box (nothing e) p left h = absurd (let z : _≡_ {A = ℕ} 0 1 = cc in omega arith)
+  taken-in-box (nothing e w) p left h = absurd (let z : _≡_ {A = ℕ} 0 1 = cc in omega arith)
   taken-in-box (takes x W e put there others first) p left h = let y : p ≡ x = cc in rw y (inl there)
   taken-in-box (carrying x l e) p left h = let y : p ≡ x = cc in inr (l, rw y e)
 
   -- So was a packet that is in the box after the step.
   pub in-box-before : {l : Link} {W : List Packet} → Taking box l W → (x : Packet) → List·Memᴰ x W ⊎ ((left : ℕ) × (linkSent l ≡ carries x left)) → InBox box x
-  in-box-before (nothing e) x (inl m) = absurd (List·Memᴰ·not-nil m)
+  in-box-before (nothing e w) x (inl m) = absurd (List·Memᴰ·not-nil m)
   in-box-before (takes p W e put there others first) x (inl m) = inl (others x m)
   in-box-before (carrying p l e) x (inl m) = inl m
-  in-box-before (nothing e) x (inr c) = let h = c .1 in absurd (let z : _≡_ {A = ℕ} 0 1 = unfold linkSent in cc in omega arith)
+  in-box-before (nothing e w) x (inr c) = let h = c .1 in absurd (let z : _≡_ {A = ℕ} 0 1 = unfold linkSent in cc in omega arith)
   in-box-before (takes p W e put there others first) x (inr c) = rw (sent-is p (p .units) x (c .0) (c .1)) (inl there)
   in-box-before (carrying p l e) x (inr c) = inr (l, rw (sent-is p l x (c .0) (c .1)) e)

@@ -156,7 +156,7 @@ known-steps box H go g k =
     }
   where
     still-waits : {l : Link} {W : List Packet} → Taking box l W → (p : Packet) → List·Memᴰ p W → List·Memᴰ p (waiting box)
-    still-waits (nothing e) p m = absurd (List·Memᴰ·not-nil m)
+    still-waits (nothing e w) p m = absurd (List·Memᴰ·not-nil m)
     still-waits (takes x W e put there others first) p m = others p m
     still-waits (carrying x left e) p m = m
     sent : (p : Packet) (left : ℕ) → List·Memᴰ p H → left ≤ p .units → (x : Packet) (l : ℕ) → linkSent (carries p left) ≡ carries x l → OnLink (suc (box .counter)) H x l
@@ -171,7 +171,7 @@ known-steps box H go g k =
           rw (y, n) (record { accepted = m; earlier = omega arith; some-left = omega arith; some-sent = omega arith }))
         (sent-cases p left)
     link : {l : Link} {W : List Packet} → Taking box l W → (x : Packet) (left : ℕ) → linkSent l ≡ carries x left → OnLink (suc (box .counter)) H x left
-    link (nothing e) x left h = unfold linkSent in absurd (let z : _≡_ {A = ℕ} 0 1 = cc in omega arith)
+    link (nothing e w) x left h = unfold linkSent in absurd (let z : _≡_ {A = ℕ} 0 1 = cc in omega arith)
     link (takes p W e put there others first) x left h = sent p (p .units) (k .waiting-known p there) (omega arith) x left h
     link (carrying p l e) x left h = let o = k .link-known p l e in let s = o .some-sent in sent p l (o .accepted) (omega arith) x left h
 

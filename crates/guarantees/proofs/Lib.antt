@@ -18,3 +18,4 @@ pub mod Stretches
 pub mod Records
 pub mod Metered
 pub mod OnTime
+pub mod Once

@@ -58,7 +58,7 @@ scheduled-steps box H go g k s q closed =
     here = closed-before box (moved box) H H q g k (λ x m. m) closed
     step : {l : Link} {W W′ : List Packet} → Taking box l W → Same W W′ → Backlog q (box .counter) (waiting box) (box .link) H →
         Backlog q (suc (box .counter)) W′ (linkSent l) H
-    step (nothing e) same b = unfold linkSent in idle-keeps q (suc (box .counter)) _ H same
+    step (nothing e w) same b = unfold linkSent in idle-keeps q (suc (box .counter)) _ H same
     step (takes p W e put there others first) same b =
         let c = k .packets-ok p (k .waiting-known p there) in
         send-keeps q (box .counter) W _ H p (p .units) (c .units-least) same
