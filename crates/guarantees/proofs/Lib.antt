@@ -19,3 +19,4 @@ pub mod Records
 pub mod Metered
 pub mod OnTime
 pub mod Once
+pub mod Order
