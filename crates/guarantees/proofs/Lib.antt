@@ -20,3 +20,4 @@ pub mod Metered
 pub mod OnTime
 pub mod Once
 pub mod Order
+pub mod Always

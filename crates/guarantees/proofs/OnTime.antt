@@ -17,7 +17,7 @@ use Rattle.meaning.specs.Calls.{newBox, withStanding, afterOffer}
 use Rattle.meaning.specs.Step.{linkTaken, queuesTaken, linkSent, moved}
 use Rattle.meaning.proofs.Facts.{ConnectionFacts, PacketFacts}
 use Rattle.meaning.proofs.QueueLaws.{empty-flatten}
-use Rattle.guarantees.specs.Runs.{Departure}
+use Rattle.guarantees.specs.Runs.{Departure, dueBy}
 use Rattle.guarantees.proofs.Saying.{OfferSays, StepGoes}
 use Rattle.guarantees.proofs.Classes.{bound-least}
 use Rattle.guarantees.proofs.Backlog.{OnLink}
@@ -28,10 +28,6 @@ use Rattle.guarantees.proofs.Known.{Known}
 use Rattle.guarantees.proofs.Scheduled.{Scheduled}
 use Rattle.guarantees.proofs.Ahead.{Conforming, classOf}
 use Rattle.guarantees.proofs.Deadline.{not-at-bound}
-
--- The slot by which a packet of connection n that arrived at this slot has departed.
-unfoldable pub dueBy : Box → ℕ → ℕ → ℕ
-dueBy box n arrival = arrival + bound (box .settings) (connection box n .class)
 
 -- No packet in the box is at its bound, and every departure came by then.
 pub record OnTime (box : Box) (G : List Departure) : Type 0 where

@@ -19,7 +19,7 @@ use Rattle.meaning.specs.Queues.{emptyQueues}
 use Rattle.meaning.specs.Calls.{newBox, withStanding, afterOffer}
 use Rattle.meaning.specs.Step.{linkTaken, queuesTaken, linkSent, moved}
 use Rattle.meaning.proofs.QueueLaws.{empty-flatten}
-use Rattle.guarantees.specs.Runs.{Departure}
+use Rattle.guarantees.specs.Runs.{Departure, timesAmong}
 use Rattle.guarantees.proofs.Saying.{OfferSays, StepGoes}
 use Rattle.guarantees.proofs.Sending.{sent-cases}
 use Rattle.guarantees.proofs.Moves.{Move, refused, joins, accepts, idles, sends, departs, newPacket, leaving}
@@ -39,7 +39,7 @@ Once box H G = (f : ℕ → ℕ → ℕ → ℕ) → ofPackets f H ≡ ofPackets
 
 -- Serials count accepted packets from 1: each number up to the count is the serial of one of them, and no other number is.
 abbrev pub Numbered : Box → List Packet → Type 0
-Numbered box H = (n : ℕ) → sumOf (λ p. given (eqb (p .serial) n) 1) H ≡ given (within 1 n (box .accepted)) 1
+Numbered box H = (n : ℕ) → timesAmong n H ≡ given (within 1 n (box .accepted)) 1
 
 -- A new box.
 pub once-new : (set : Settings) → Once (newBox set) [] []
@@ -51,7 +51,7 @@ within-out low x high h =
     ⊎-elim (λ (e : within low x high ≡ true). absurd (let w = within-facts low x high e in h (w .0) (w .1))) (λ e. e) (bool-cases (within low x high))
 
 pub numbered-new : (set : Settings) → Numbered (newBox set) []
-unfolding newBox sumOf
+unfolding newBox sumOf timesAmong
 numbered-new set n = sym (given-false 1 (within-out 1 n 0 (λ a b. omega arith)))
 
 -- A step: what is taken goes from those that wait to the link, and from there to the departed with its last unit.
@@ -130,7 +130,8 @@ once-moves box next H H′ G G′ o (departs go p left e l) = λ f.
     omega arith
 
 numbered-accepts : (box : Box) (H : List Packet) (p : Packet) → p .serial ≡ suc (box .accepted) → Numbered box H → (n : ℕ) →
-    sumOf (λ p. given (eqb (p .serial) n) 1) (H ++ (p ∷ [])) ≡ given (within 1 n (suc (box .accepted))) 1
+    timesAmong n (H ++ (p ∷ [])) ≡ given (within 1 n (suc (box .accepted))) 1
+unfolding timesAmong
 numbered-accepts box H p e k n =
     let g : Packet → ℕ = λ p. given (eqb (p .serial) n) 1 in
     let a = sum-append g H (p ∷ []) in

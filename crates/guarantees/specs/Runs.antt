@@ -1,6 +1,6 @@
 -- A run: any list of admissions, offers and steps from a new box, refused ones among them, and the history that its own calls and
 -- answers tell.
-use Prim.Native.Nat.{ℕ, suc}
+use Prim.Native.Nat.{ℕ, suc, _+_}
 use mathlib.Core.Bool.{Bool, true, cond, _&&_, _||_, not}
 use mathlib.Core.List.{List, [], _∷_, _++_}
 use lib.Dec.{eqb, ltb}
@@ -8,9 +8,11 @@ use Rattle.laws.specs.Tests.{every}
 use Rattle.meaning.specs.declared.Admitted.{Admitted}
 use Rattle.meaning.specs.declared.Offered.{Offered}
 use Rattle.meaning.specs.declared.Stepped.{Stepped}
-use Rattle.meaning.specs.Numbers.{Connection}
-use Rattle.meaning.specs.Box.{Box, Packet}
-use Rattle.meaning.specs.Calls.{admissionAnswer, afterAdmission, offerAnswer, afterOffer}
+use Rattle.laws.specs.Sums.{sumOf}
+use Rattle.laws.specs.SumLaws.{given}
+use Rattle.meaning.specs.Numbers.{Settings, Connection, bound}
+use Rattle.meaning.specs.Box.{Box, Packet, connection}
+use Rattle.meaning.specs.Calls.{newBox, admissionAnswer, afterAdmission, offerAnswer, afterOffer}
 use Rattle.meaning.specs.Step.{stepAnswer, afterStep}
 
 -- A call: a connection asks for admission, a packet of this connection and length is offered, or a step.
@@ -112,3 +114,25 @@ departedIn (e ∷ es) = packetLeft (e .answer) ++ departedIn es
 unfoldable pub inOrder : List Departure → Bool
 inOrder [] = true
 inOrder (g ∷ gs) = every (λ h. not (eqb (g .connection) (h .connection)) || ltb (g .serial) (h .serial)) gs && inOrder gs
+
+-- How often this serial is among these packets.
+unfoldable pub timesAmong : ℕ → List Packet → ℕ
+timesAmong n ps = sumOf (λ p. given (eqb (p .serial) n) 1) ps
+
+-- How often it is among these departures.
+unfoldable pub timesDeparted : ℕ → List Departure → ℕ
+timesDeparted n gs = sumOf (λ g. given (eqb (g .serial) n) 1) gs
+
+-- The slot by which a packet of connection n that arrived at this slot is to have departed: its class's bound later.
+unfoldable pub dueBy : Box → ℕ → ℕ → ℕ
+dueBy box n arrival = arrival + bound (box .settings) (connection box n .class)
+
+-- A run from a new box: the box after it, the packets that it accepted, and those that departed.
+abbrev pub boxOf : Settings → List Call → Box
+boxOf set calls = boxAfter (newBox set) calls
+
+abbrev pub acceptedOf : Settings → List Call → List Packet
+acceptedOf set calls = acceptedIn (trace (newBox set) calls)
+
+abbrev pub departedOf : Settings → List Call → List Departure
+departedOf set calls = departedIn (trace (newBox set) calls)

@@ -62,6 +62,19 @@ module _ {A : Type 0} where
   sum-member f (x ∷ l) {a} (List·Memᴰ·head e) = let y : f a ≡ f x = ap f e in omega arith
   sum-member f (x ∷ l) (List·Memᴰ·tail m) = let y = sum-member f l m in omega arith
 
+  -- what is counted at all is found
+  pub sum-found : (test : A → Bool) (l : List A) → 1 ≤ sumOf (λ a. given (test a) 1) l → (a : A) × List·Memᴰ a l × (test a ≡ true)
+  unfolding sumOf
+  sum-found test [] h = absurd (omega arith)
+  sum-found test (a ∷ l) h = go (λ k. sum-found test l k) (test a) refl
+    where
+      later : test a ≡ false → 1 ≤ sumOf (λ a. given (test a) 1) l
+      later e = let g = given-false 1 e in omega arith
+      go : (1 ≤ sumOf (λ a. given (test a) 1) l → (x : A) × List·Memᴰ x l × (test x ≡ true)) → (b : Bool) → test a ≡ b →
+          (x : A) × List·Memᴰ x (a ∷ l) × (test x ≡ true)
+      go rest true e = (a, List·Memᴰ·head refl, e)
+      go rest false e = let r = rest (later e) in (r .0, List·Memᴰ·tail (r .1), r .2)
+
   -- a sum of nothing
   pub sum-zero : (f : A → ℕ) (l : List A) → ((a : A) → List·Memᴰ a l → f a ≡ 0) → sumOf f l ≡ 0
   unfolding sumOf
