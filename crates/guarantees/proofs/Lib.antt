@@ -21,3 +21,4 @@ pub mod OnTime
 pub mod Once
 pub mod Order
 pub mod Always
+pub mod Statements
