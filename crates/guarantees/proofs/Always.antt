@@ -58,7 +58,7 @@ always set e calls =
     calls
 
 -- A call on a sound box leaves a sound one.
-sound-after : (box : Box) (c : Call) → sound box ≡ true → sound (after box c) ≡ true
+pub sound-after : (box : Box) (c : Call) → sound box ≡ true → sound (after box c) ≡ true
 unfolding after
 sound-after box (admit c) s = admission-keeps-sound box c s
 sound-after box (offer n units) s = offer-keeps-sound box n units s

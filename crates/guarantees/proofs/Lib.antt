@@ -22,3 +22,4 @@ pub mod Once
 pub mod Order
 pub mod Always
 pub mod Statements
+pub mod Isolated
