@@ -63,22 +63,24 @@ module _ (box : Box) (H : List Packet) (k : Known box H) (conforming : Conformin
   unfolding partOf delayed
   part-kept j d T a b limit =
       elim (decLe d T) [
-        yes l ↦ rw (le-leb d T l) (inside l)
-        | no l ↦ rw (lt-leb d T (omega arith)) (outside l) ]
+        | yes l ↦ rw (le-leb d T l) (inside l)
+        | no l ↦ rw (lt-leb d T (omega arith)) (outside l)
+      ]
     where
       inside : d ≤ T → sumOf (λ p. given (eqb (p .connection) j) (brings p)) H ≤ envelope (connection box j) (T - d)
       inside l =
           let c = conforming j a b u (T - d) in
           let s = sum-mono (λ p. given (eqb (p .connection) j) (brings p))
-              (λ p. given (eqb (p .connection) j && within u (p .arrival) (u + (T - d))) (p .units)) H
-              (λ x m. counted j x (within u (x .arrival) (u + (T - d)))
-                (λ e f g. within-test u (x .arrival) (u + (T - d)) g (let h = limit x m (eqb-true _ _ e) f g in omega arith))) in
+          (λ p. given (eqb (p .connection) j && within u (p .arrival) (u + (T - d))) (p .units)) H
+          (λ x m. counted j x (within u (x .arrival) (u + (T - d)))
+          (λ e f g. within-test u (x .arrival) (u + (T - d)) g (let h = limit x m (eqb-true _ _ e) f g in omega arith))) in
           unfold unitsIn in omega arith
+
       outside : (d ≤ T → ⊥) → sumOf (λ p. given (eqb (p .connection) j) (brings p)) H ≤ 0
       outside l =
           let s = sum-zero (λ p. given (eqb (p .connection) j) (brings p)) H
-              (λ x m. let c = counted j x false (λ e f g. absurd (let h = limit x m (eqb-true _ _ e) f g in omega arith)) in
-                let z = given-false {b = eqb (x .connection) j && false} (x .units) (mathlib.Core.Bool.and-false (eqb (x .connection) j)) in omega arith) in
+          (λ x m. let c = counted j x false (λ e f g. absurd (let h = limit x m (eqb-true _ _ e) f g in omega arith)) in
+          let z = given-false {b = eqb (x .connection) j && false} (x .units) (mathlib.Core.Bool.and-false (eqb (x .connection) j)) in omega arith) in
           omega arith
 
   -- The limits that the test at T counts with: up to u + T for class 1, and up to u + T + D for the others, less the bound.
@@ -97,21 +99,22 @@ module _ (box : Box) (H : List Packet) (k : Known box H) (conforming : Conformin
       where
         d : ℕ
         d = bound (box .settings) (connection box j .class)
+
         go : (c : Bool) → eqb (connection box j .class) 1 ≡ c →
             partOf (λ p. p .connection) brings H j ≤
             cond c (delayed (envelope (connection box j)) d T) (delayed (envelope (connection box j)) d (T + box .settings .interval))
         go true e =
             part-kept j d T a b (λ x m n f g.
-              ⊎-elim (λ (l : (classOf box x ≡ 1) × (x .arrival + bound (box .settings) (classOf box x) ≤ u + T)). rw n at (l .1))
-              (λ (l : (classOf box x ≡ 1 → ⊥) × (x .arrival + bound (box .settings) (classOf box x) ≤ u + (T + box .settings .interval))).
-                absurd (l .0 (rw n (eqb-true _ _ e))))
-              (limits x m f g))
+            ⊎-elim (λ (l : (classOf box x ≡ 1) × (x .arrival + bound (box .settings) (classOf box x) ≤ u + T)). rw n at (l .1))
+            (λ (l : (classOf box x ≡ 1 → ⊥) × (x .arrival + bound (box .settings) (classOf box x) ≤ u + (T + box .settings .interval))).
+            absurd (l .0 (rw n (eqb-true _ _ e))))
+            (limits x m f g))
         go false e =
             part-kept j d (T + box .settings .interval) a b (λ x m n f g.
-              ⊎-elim (λ (l : (classOf box x ≡ 1) × (x .arrival + bound (box .settings) (classOf box x) ≤ u + T)).
-                absurd (eqb-false _ _ e (rw n at (l .0))))
-              (λ (l : (classOf box x ≡ 1 → ⊥) × (x .arrival + bound (box .settings) (classOf box x) ≤ u + (T + box .settings .interval))). rw n at (l .1))
-              (limits x m f g))
+            ⊎-elim (λ (l : (classOf box x ≡ 1) × (x .arrival + bound (box .settings) (classOf box x) ≤ u + T)).
+            absurd (eqb-false _ _ e (rw n at (l .0))))
+            (λ (l : (classOf box x ≡ 1 → ⊥) × (x .arrival + bound (box .settings) (classOf box x) ≤ u + (T + box .settings .interval))). rw n at (l .1))
+            (limits x m f g))
 
     by-groups : arrivedSince q u H ≡ across (partOf (λ p. p .connection) brings H) 1 (length (box .standing))
     unfolding arrivedSince brings
@@ -144,12 +147,12 @@ module _ (box : Box) (H : List Packet) (k : Known box H) (conforming : Conformin
     ahead-spare j s a b t none =
         let l = connections-length box in
         let z = sum-zero (λ p. given (eqb (p .connection) j) (brings p)) H
-            (λ x m. let c = counted j x false (λ e f g. absurd (none x m (eqb-true _ _ e) f g)) in
-              let z = given-false {b = eqb (x .connection) j && false} (x .units) (mathlib.Core.Bool.and-false (eqb (x .connection) j)) in omega arith) in
+        (λ x m. let c = counted j x false (λ e f g. absurd (none x m (eqb-true _ _ e) f g)) in
+        let z = given-false {b = eqb (x .connection) j && false} (x .units) (mathlib.Core.Bool.and-false (eqb (x .connection) j)) in omega arith) in
         let e : 1 + (j - 1) ≡ j = omega arith in
         let w : partOf (λ p. p .connection) brings H (1 + (j - 1)) ≡ 0 = rw e z in
         let r = across-spare (partOf (λ p. p .connection) brings H) (term (box .settings) T) (connections box) noConnection 1 s (j - 1)
-            (omega arith) (omega arith) each in
+        (omega arith) (omega arith) each in
         let g = by-groups in
         let o = ap (across (partOf (λ p. p .connection) brings H) 1) l in
         omega arith

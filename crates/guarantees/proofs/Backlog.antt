@@ -103,7 +103,7 @@ module _ (q : Packet → Bool) where
         rest = b .rest;
         begun = b .begun;
         account = (let s = put .sums (λ p. given (q p) (p .units)) in let g = given-false (p .units) e in
-          let a = b .account in let m = arrived-more (b .since) H p in omega arith);
+            let a = b .account in let m = arrived-more (b .since) H p in omega arith);
         waits = λ x m h. ⊎-elim (λ (k : x ≡ p). absurd (true≢false (sym h ∙ ap q k ∙ e))) (λ (k : List·Memᴰ x W). b .waits x k h) (put .parts x m);
         carried = b .carried;
         way = way-more (b .since) (b .rest) H p (b .way);
@@ -127,7 +127,7 @@ module _ (q : Packet → Bool) where
             let m = arrived-more (b .since) H p in
             omega arith;
         waits = λ x m h. ⊎-elim (λ (k : x ≡ p). let a = ap (λ (p : Packet). p .arrival) k in let l = b .begun in omega arith)
-          (λ (k : List·Memᴰ x W). b .waits x k h) (put .parts x m);
+            (λ (k : List·Memᴰ x W). b .waits x k h) (put .parts x m);
         carried = b .carried;
         way = way-more (b .since) (b .rest) H p (b .way);
       }
@@ -141,8 +141,10 @@ module _ (q : Packet → Bool) where
     where
       here : OnLink slot H v left
       here = on v left refl
+
       mine : q v ≡ true → (linkOther q (carries v left) ≡ 0) ⊎ InTheWay q slot (linkOther q (carries v left)) H
       mine e = inl (given-false left (ap not e))
+
       others : q v ≡ false → (linkOther q (carries v left) ≡ 0) ⊎ InTheWay q slot (linkOther q (carries v left)) H
       others e =
           inr (record {
@@ -169,7 +171,7 @@ module _ (q : Packet → Bool) where
             let m = arrived-more slot H p in
             omega arith;
         waits = λ x m h. ⊎-elim (λ (k : x ≡ p). let a = ap (λ (p : Packet). p .arrival) k in omega arith)
-          (λ (k : List·Memᴰ x W). absurd (let c = waiting-counts W x k h in let u = units x k in omega arith)) (put .parts x m);
+            (λ (k : List·Memᴰ x W). absurd (let c = waiting-counts W x k h in let u = units x k in omega arith)) (put .parts x m);
         carried = λ v left k h. absurd (busy-link link v left k h (on v left k .some-left) (omega arith));
         way = way-more slot (linkOther q link) H p (other-on-link slot H link on);
       }

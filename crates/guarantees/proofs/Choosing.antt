@@ -100,8 +100,10 @@ module _ (box : Box) where
       let rise = and-eq-true-iff (ltb 0 (y .serial)) (risingAbove (y .serial) serials) .0 (up .0) in
       let a = eqb-true (rankIn box y) (box .counter / box .settings .interval + tag) (every-at here (y ∷ q) (h .0) (List·Memᴰ·head refl)) in
       let same-queue : List·Memᴰ x q → Before box y x =
-      λ n. inr (let b = eqb-true (rankIn box x) (box .counter / box .settings .interval + tag) (every-at here (y ∷ q) (h .0) (List·Memᴰ·tail n)) in omega arith,
-        rising-member (y .serial) serials (rise .1) (Memᴰ·map (λ (p : Packet). p .serial) n)) in
+      λ n. inr (
+        let b = eqb-true (rankIn box x) (box .counter / box .settings .interval + tag) (every-at here (y ∷ q) (h .0) (List·Memᴰ·tail n)) in omega arith,
+        rising-member (y .serial) serials (rise .1) (Memᴰ·map (λ (p : Packet). p .serial) n),
+      ) in
       let later-queue : List·Memᴰ x (flatten qs) → Before box y x =
       λ n. inl (let b = rank-least (suc tag) qs (h .1) x n in omega arith) in
       rw z (⊎-elim same-queue later-queue (List·Memᴰ·append-cases q m))

@@ -48,8 +48,9 @@ module _ (set : Settings) (f : SettingsFacts set) where
   unfolding largestFactor
   factor-most p h l =
       elim (decLt p (classCount set)) [
-        yes m ↦ (let r = factor-rises p (classCount set) h m (omega arith) in omega arith)
-        | no m ↦ (let e : p ≡ classCount set = omega arith in let r = ap (factor set) e in omega arith) ]
+        | yes m ↦ (let r = factor-rises p (classCount set) h m (omega arith) in omega arith)
+        | no m ↦ (let e : p ≡ classCount set = omega arith in let r = ap (factor set) e in omega arith)
+      ]
 
   -- Every bound is at least 1.
   pub bound-least : (p : ℕ) → 1 ≤ p → p ≤ classCount set → 1 ≤ bound set p

@@ -59,8 +59,8 @@ module _ (box : Box) (H : List Packet) (k : Known box H) (conforming : Conformin
   limit-below x n e c =
       ⊎-elim (λ l. below (box .settings .interval) (k .settings-ok .interval-least) (x .arrival) (p .arrival) _ _ l)
       (λ l. absurd (let q = l .0 in
-        let s = earlier-interval (box .settings .interval) (k .settings-ok .interval-least) (p .arrival) (x .arrival) (omega arith) in
-        let a = k .arrivals-rise x p n m (l .1) in omega arith))
+      let s = earlier-interval (box .settings .interval) (k .settings-ok .interval-least) (p .arrival) (x .arrival) (omega arith) in
+      let a = k .arrivals-rise x p n m (l .1) in omega arith))
       (up-to-facts box p x e)
 
   -- A packet that is not up to p, accepted before slot u.
@@ -68,8 +68,9 @@ module _ (box : Box) (H : List Packet) (k : Known box H) (conforming : Conformin
   unfolding start bound rankIn rank
   limit-beyond u l v n e b =
       let s : v .serial < p .serial = elim (decLt (v .serial) (p .serial)) [
-        yes h ↦ h
-        | no h ↦ absurd (let a = k .arrivals-rise p v m n (omega arith) in omega arith) ] in
+        | yes h ↦ h
+        | no h ↦ absurd (let a = k .arrivals-rise p v m n (omega arith) in omega arith)
+      ] in
       beyond (box .settings .interval) (k .settings-ok .interval-least) (v .arrival) (p .arrival) _ _ u (beyond-rank box p v e s) b
 
   module _ (u rest : ℕ) (early : u ≤ p .arrival) (way : (rest ≡ 0) ⊎ InTheWay (upTo box p) u rest H)
@@ -80,17 +81,28 @@ module _ (box : Box) (H : List Packet) (k : Known box H) (conforming : Conformin
       where
         T : ℕ
         T = p .arrival + d p - u
+
         sum : u + T ≡ p .arrival + d p
         sum = omega arith
+
         after : u + T < u + rest + arrivedSince (upTo box p) u H
         after = omega arith
+
         limits : KeepsLimits box H k conforming (upTo box p) u T
         limits x n e g =
             elim (ℕ-discrete (classOf box x) 1) [
-              yes c ↦ inl (c, (let a = limit-same x n e (c ∙ sym one) in let b : d x ≡ d p = ap (bound (box .settings)) (c ∙ sym one) in
-                let s = sum in let z : x .arrival + d x ≤ u + T = omega arith in z))
-              | no c ↦ inr (c, (let a = limit-any x n e in let b = starts .0 in let s = sum in
-                let z : x .arrival + d x ≤ u + (T + D) = omega arith in z)) ]
+              | yes c ↦ inl (
+                c,
+                (let a = limit-same x n e (c ∙ sym one) in let b : d x ≡ d p = ap (bound (box .settings)) (c ∙ sym one) in
+                    let s = sum in let z : x .arrival + d x ≤ u + T = omega arith in z),
+              )
+              | no c ↦ inr (
+                c,
+                (let a = limit-any x n e in let b = starts .0 in let s = sum in
+                    let z : x .arrival + d x ≤ u + (T + D) = omega arith in z),
+              )
+            ]
+
         in-the-way : InTheWay (upTo box p) u rest H → ⊥
         in-the-way v =
             let o = limit-beyond u early (v .packet) (v .accepted) (v .other) (v .earlier) in
@@ -98,13 +110,14 @@ module _ (box : Box) (H : List Packet) (k : Known box H) (conforming : Conformin
             let s = sum in
             let e : d p ≡ bound (box .settings) 1 = ap (bound (box .settings)) one in
             elim (decLt (T + D) (d (v .packet))) [
-              yes far ↦ far-in-the-way box H k conforming (upTo box p) u rest T limits after (v .packet) (v .accepted) (v .longer) (omega arith)
-                far
+              | yes far ↦ far-in-the-way box H k conforming (upTo box p) u rest T limits after (v .packet) (v .accepted) (v .longer) (omega arith)
+                  far
               | no near ↦ near-in-the-way box H k conforming (upTo box p) u rest T limits after (v .packet) (v .accepted) (v .longer)
-                (λ c. let w : d (v .packet) ≡ bound (box .settings) 1 = ap (bound (box .settings)) c in absurd (omega arith))
-                (let z : d (v .packet) ≤ T + D = omega arith in z)
-                (λ x n c f g. let w : d x ≡ d (v .packet) = ap (λ j. bound (box .settings) (connection box j .class)) c in
-                  let a = limit-any x n f in absurd (omega arith)) ]
+                  (λ c. let w : d (v .packet) ≡ bound (box .settings) 1 = ap (bound (box .settings)) c in absurd (omega arith))
+                  (let z : d (v .packet) ≤ T + D = omega arith in z)
+                  (λ x n c f g. let w : d x ≡ d (v .packet) = ap (λ j. bound (box .settings) (connection box j .class)) c in
+                  let a = limit-any x n f in absurd (omega arith))
+            ]
 
     -- A packet of a class above 1: the test at K x D + d - u.
     later-class : (classOf box p ≡ 1 → ⊥) → ⊥
@@ -112,23 +125,34 @@ module _ (box : Box) (H : List Packet) (k : Known box H) (conforming : Conformin
       where
         T : ℕ
         T = start + d p - u
+
         class : ConnectionFacts (box .settings) (connection box (p .connection))
         class = connection-of box H k conforming p m
+
         above : 2 ≤ classOf box p
         above = let l = class .class-least in elim (decLt 1 (classOf box p)) [ yes h ↦ h | no h ↦ absurd (other (omega arith)) ]
+
         apart : bound (box .settings) 1 + D ≤ d p
         apart = bound-apart (box .settings) (k .settings-ok) (classOf box p) above (class .class-most)
+
         sum : u + T ≡ start + d p
         sum = let s = starts in let a = apart in omega arith
+
         after : u + T < u + rest + arrivedSince (upTo box p) u H
         after = let s = starts in let e = sum in omega arith
+
         limits : KeepsLimits box H k conforming (upTo box p) u T
         limits x n e g =
             elim (ℕ-discrete (classOf box x) 1) [
-              yes c ↦ inl (c, (let f = factor-rises (box .settings) (k .settings-ok) 1 (classOf box p) (omega arith) above (class .class-most) in
-                let q = ap (factor (box .settings)) c in
-                let a = limit-below x n e (omega arith) in let s = sum in let z : x .arrival + d x ≤ u + T = omega arith in z))
-              | no c ↦ inr (c, (let a = limit-any x n e in let s = sum in let z : x .arrival + d x ≤ u + (T + D) = omega arith in z)) ]
+              | yes c ↦ inl (
+                c,
+                (let f = factor-rises (box .settings) (k .settings-ok) 1 (classOf box p) (omega arith) above (class .class-most) in
+                    let q = ap (factor (box .settings)) c in
+                    let a = limit-below x n e (omega arith) in let s = sum in let z : x .arrival + d x ≤ u + T = omega arith in z),
+              )
+              | no c ↦ inr (c, (let a = limit-any x n e in let s = sum in let z : x .arrival + d x ≤ u + (T + D) = omega arith in z))
+            ]
+
         in-the-way : InTheWay (upTo box p) u rest H → ⊥
         in-the-way v =
             let o = limit-beyond u early (v .packet) (v .accepted) (v .other) (v .earlier) in
@@ -165,9 +189,11 @@ not-at-bound box H k conforming s p m inside now = go inside (s (upTo box p) (up
   where
     works : 1 ≤ waitingWork (upTo box p) (waiting box) + linkWork (upTo box p) (box .link)
     works = in-box-works (upTo box p) box H k p (up-to-self box p) inside
+
     early : List·Memᴰ p (waiting box) ⊎ ((left : ℕ) × (box .link ≡ carries p left)) → (b : Busy (upTo box p) (box .counter) (waiting box) (box .link) H) → b .since ≤ p .arrival
     early (inl n) b = b .waits p n (up-to-self box p)
     early (inr l) b = b .carried p (l .0) (l .1) (up-to-self box p)
+
     go : List·Memᴰ p (waiting box) ⊎ ((left : ℕ) × (box .link ≡ carries p left)) → Backlog (upTo box p) (box .counter) (waiting box) (box .link) H → ⊥
     go i (inl z) = let w = works in omega arith
     go i (inr b) = never-at-bound box H k conforming p m (b .since) (b .rest) (early i b) (b .way) (let a = b .account in let w = works in omega arith)

@@ -69,6 +69,7 @@ taking box s = go (box .link) refl
         unfold loaded waiting in
         takes p (flatten (withoutLowestHead (box .queues))) l (head-put p (box .queues) e) (lowest-member (box .queues) p e)
         (λ x m. without-member (box .queues) m) (chosen-goes-first box s p e)
+
     go : (l : Link) → box .link ≡ l → Taking box (linkTaken l (box .queues)) (flatten (queuesTaken l (box .queues)))
     go free e = unfold linkTaken queuesTaken in from-free e (lowestHead (box .queues)) refl
     go (carries p left) e = unfold linkTaken queuesTaken waiting in carrying p left e

@@ -42,7 +42,7 @@ module _ (box : Box) (H : List Packet) (k : Known box H) (conforming : Conformin
       let f = k .packets-ok v m in
       rw (lt-ltb _ _ l) at
       (largest-member (λ c. cond (ltb (T + box .settings .interval) (bound (box .settings) (c .class))) (c .longest) 0) (connections box)
-        (connection-member box (v .connection) (f .connection-least) (f .connection-most)))
+      (connection-member box (v .connection) (f .connection-least) (f .connection-most)))
 
   -- The term of a class above 1 whose bound is at most t + D is at least s.
   term-least : (T : ℕ) (v : Packet) → List·Memᴰ v H → (classOf box v ≡ 1 → ⊥) → boundOf v ≤ T + box .settings .interval →
@@ -77,7 +77,7 @@ module _ (box : Box) (H : List Packet) (k : Known box H) (conforming : Conformin
       near-in-the-way v m r n near none =
           let f = k .packets-ok v m in
           let s = ahead-spare box H k conforming q u T limits (v .connection) (connection box (v .connection) .longest)
-              (f .connection-least) (f .connection-most) (term-least T v m n near) none in
+          (f .connection-least) (f .connection-most) (term-least T v m n near) none in
           let c = condition-facts _ _ T (k .conditions-hold T) .eleven-holds in
           let p = f .units-most in
           omega arith

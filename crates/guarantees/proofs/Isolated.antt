@@ -99,10 +99,10 @@ module _ (n : ℕ) (h : 1 ≤ n) where
       unfold connections withStanding in map-append (λ (s : Standing). s .asked) (box .standing) (row ∷ []) in
       let meter : allowance (withStanding box (box .standing ++ (row ∷ []))) n ≡ cond (eqb (n - 1) (length (connections box))) (full c) (allowance box n) =
       unfold allowance withStanding in
-        (ap (λ l. getD l (n - 1) (full noConnection)) (map-append (λ (s : Standing). s .allowance) (box .standing) (row ∷ [])) ∙
-          getD-last (map (λ (s : Standing). s .allowance) (box .standing)) (full c) (full noConnection) (n - 1) ∙
-          ap (λ l. cond (eqb (n - 1) l) (full c) (getD (map (λ (s : Standing). s .allowance) (box .standing)) (n - 1) (full noConnection)))
-            (length-map (box .standing) (λ s. s .allowance) ∙ sym (connections-length box))) in
+      (ap (λ l. getD l (n - 1) (full noConnection)) (map-append (λ (s : Standing). s .allowance) (box .standing) (row ∷ [])) ∙
+      getD-last (map (λ (s : Standing). s .allowance) (box .standing)) (full c) (full noConnection) (n - 1) ∙
+      ap (λ l. cond (eqb (n - 1) l) (full c) (getD (map (λ (s : Standing). s .allowance) (box .standing)) (n - 1) (full noConnection)))
+      (length-map (box .standing) (λ s. s .allowance) ∙ sym (connections-length box))) in
       λ i. record { contracts = contracts i; meter = meter i }
   view-admitted box c Admitted.NotSound = refl
   view-admitted box c Admitted.OffRange = refl
@@ -134,7 +134,7 @@ module _ (n : ℕ) (h : 1 ≤ n) where
       let r = within-facts 1 n (length (box .standing)) (unfold stands in says .1) in
       let contracts = offer-connections box n units in
       let meter : allowance (afterOffer box n units (Offered.Accepted (suc (box .accepted)))) n ≡
-        charged (getD (connections box) (n - 1) noConnection) (allowance box n) (box .counter) =
+      charged (getD (connections box) (n - 1) noConnection) (allowance box n) (box .counter) =
       charged-mine box n units (r .0) (r .1) in
       rw (says .5) (λ i. record { contracts = contracts i; meter = meter i })
 
@@ -184,12 +184,13 @@ module _ (n : ℕ) (h : 1 ≤ n) where
     unfolding answerTo askOf
     told-offer m units t i =
         elim (ℕ-discrete m n) [
-          yes e ↦ rw (eq-eqb m n e) (subst (λ m. isTen (toOffer (offerAnswer box m units)) ≡ false →
+          | yes e ↦ rw (eq-eqb m n e) (subst (λ m. isTen (toOffer (offerAnswer box m units)) ≡ false →
               After (view n (afterOffer box m units (offerAnswer box m units))) →
               serialAside (offerAnswer box m units) ∷ told n es ≡ replay (box .settings) n (view n box) (offering (box .counter) units ∷ asked n es))
-            (sym e) (told-own units) t i)
+              (sym e) (told-own units) t i)
           | no e ↦ rw (ne-eqb m n e) (i ∙ ap (λ v. replay (box .settings) n v (asked n es))
-            (view-other box m units e (offerAnswer box m units) (offer-says box m units))) ]
+              (view-other box m units e (offerAnswer box m units) (offer-says box m units)))
+        ]
 
     told-call : (c : Call) → isTen (reply box c) ≡ false → After (view n (after box c)) →
         answerTo n c (reply box c) ++ told n es ≡ replay (box .settings) n (view n box) (askOf n (box .counter) c ++ asked n es)
@@ -199,7 +200,7 @@ module _ (n : ℕ) (h : 1 ≤ n) where
     told-call (admit c) t i =
         unfold answerTo askOf replay in
         (i ∙ ap (λ v. replay (box .settings) n v (asked n es))
-          (view-admitted box c (admissionAnswer box c) ∙ ap (viewAdmitted n (view n box) c) (admitted-same box c s)))
+        (view-admitted box c (admissionAnswer box c) ∙ ap (viewAdmitted n (view n box) c) (admitted-same box c s)))
 
   -- What connection n is told in a run that never answers 10 is what its view and what is asked give.
   pub replayed : (box : Box) (calls : List Call) → sound box ≡ true → neverTen (trace box calls) ≡ true →

@@ -116,17 +116,19 @@ known-accepts box H n units s g k =
       connections-ok = λ c m. k .connections-ok c (rw same at m);
       conditions-hold = rw same (k .conditions-hold);
       packets-ok = λ x m. ⊎-elim (λ (h : List·Memᴰ x H). facts-grow g x (k .packets-ok x h))
-        (λ (h : List·Memᴰ x (p ∷ [])). rw (List·Memᴰ·eq-of-singleton h) (new-packet-facts box n units s g)) (List·Memᴰ·append-cases H m);
+          (λ (h : List·Memᴰ x (p ∷ [])). rw (List·Memᴰ·eq-of-singleton h) (new-packet-facts box n units s g)) (List·Memᴰ·append-cases H m);
       arrivals-rise = λ x y m l h. rise x y (List·Memᴰ·append-cases H m) (List·Memᴰ·append-cases H l) h;
       waiting-known = λ x m. ⊎-elim (λ (h : x ≡ p). Memᴰ·append-right H (List·Memᴰ.List·Memᴰ·head h))
-        (λ (h : List·Memᴰ x (waiting box)). Memᴰ·append-left (p ∷ []) (k .waiting-known x h)) (accepted-put box (s .0) n units (s .1) .parts x m);
+          (λ (h : List·Memᴰ x (waiting box)). Memᴰ·append-left (p ∷ []) (k .waiting-known x h)) (accepted-put box (s .0) n units (s .1) .parts x m);
       link-known = λ x left l. on-link-more p (k .link-known x left l);
     }
   where
     p : Packet
     p = newPacket box n units
+
     same : connections (afterOffer box n units (Offered.Accepted (suc (box .accepted)))) ≡ connections box
     same = offer-connections box n units
+
     rise : (x y : Packet) → List·Memᴰ x H ⊎ List·Memᴰ x (p ∷ []) → List·Memᴰ y H ⊎ List·Memᴰ y (p ∷ []) → x .serial ≤ y .serial → x .arrival ≤ y .arrival
     rise x y (inl a) (inl b) h = k .arrivals-rise x y a b h
     rise x y (inl a) (inr b) h =
@@ -159,17 +161,19 @@ known-steps box H go g k =
     still-waits (nothing e w) p m = absurd (List·Memᴰ·not-nil m)
     still-waits (takes x W e put there others first) p m = others p m
     still-waits (carrying x left e) p m = m
+
     sent : (p : Packet) (left : ℕ) → List·Memᴰ p H → left ≤ p .units → (x : Packet) (l : ℕ) → linkSent (carries p left) ≡ carries x l → OnLink (suc (box .counter)) H x l
     sent p left m u x l e =
         ⊎-elim (λ (c : (left ≤ 1) × (linkSent (carries p left) ≡ free)). absurd (let h = c .1 in let z : _≡_ {A = ℕ} 0 1 = cc in omega arith))
         (λ (c : (2 ≤ left) × (linkSent (carries p left) ≡ carries p (left - 1))).
-          let h = c .1 in
-          let two = c .0 in
-          let y : x ≡ p = cc in
-          let n : l ≡ left - 1 = cc in
-          let a = k .packets-ok p m .arrival-most in
-          rw (y, n) (record { accepted = m; earlier = omega arith; some-left = omega arith; some-sent = omega arith }))
+        let h = c .1 in
+        let two = c .0 in
+        let y : x ≡ p = cc in
+        let n : l ≡ left - 1 = cc in
+        let a = k .packets-ok p m .arrival-most in
+        rw (y, n) (record { accepted = m; earlier = omega arith; some-left = omega arith; some-sent = omega arith }))
         (sent-cases p left)
+
     link : {l : Link} {W : List Packet} → Taking box l W → (x : Packet) (left : ℕ) → linkSent l ≡ carries x left → OnLink (suc (box .counter)) H x left
     link (nothing e w) x left h = unfold linkSent in absurd (let z : _≡_ {A = ℕ} 0 1 = cc in omega arith)
     link (takes p W e put there others first) x left h = sent p (p .units) (k .waiting-known p there) (omega arith) x left h

@@ -24,7 +24,7 @@ module _ (box : Box) (p x : Packet) where
   up-to-facts e =
       ⊎-elim (λ l. inl (ltb-true (rankIn box x) (rankIn box p) l))
       (λ s. let b = and-eq-true-iff (eqb (rankIn box x) (rankIn box p)) (leb (x .serial) (p .serial)) .0 s in
-        inr (eqb-true (rankIn box x) (rankIn box p) (b .0), leb-true (x .serial) (p .serial) (b .1)))
+      inr (eqb-true (rankIn box x) (rankIn box p) (b .0), leb-true (x .serial) (p .serial) (b .1)))
       (or-cases (ltb (rankIn box x) (rankIn box p)) (eqb (rankIn box x) (rankIn box p) && leb (x .serial) (p .serial)) e)
 
   pub up-to-test : (rankIn box x < rankIn box p) ⊎ ((rankIn box x ≡ rankIn box p) × (x .serial ≤ p .serial)) → upTo box p x ≡ true
@@ -38,9 +38,10 @@ module _ (box : Box) (p x : Packet) where
   pub beyond-rank : upTo box p x ≡ false → x .serial < p .serial → rankIn box p < rankIn box x
   beyond-rank e h =
       elim (decLt (rankIn box p) (rankIn box x)) [
-        yes l ↦ l
+        | yes l ↦ l
         | no l ↦ absurd (true≢false (sym (up-to-test (
-            elim (decLt (rankIn box x) (rankIn box p)) [ yes m ↦ inl m | no m ↦ inr (omega arith, omega arith) ])) ∙ e)) ]
+            elim (decLt (rankIn box x) (rankIn box p)) [ yes m ↦ inl m | no m ↦ inr (omega arith, omega arith) ])) ∙ e))
+      ]
 
 -- With a packet, they hold every one that goes before it.
 pub up-to-closed : (box : Box) (H : List Packet) (p : Packet) → Closed box H (upTo box p)

@@ -87,40 +87,54 @@ metered-joins : (box : Box) (H : List Packet) (c : Connection) → Grows box (wi
     Known box H → Metered box H → Metered (withStanding box (box .standing ++ (record { asked = c; allowance = full c } ∷ []))) H
 metered-joins box H c g k m j h l =
     elim (decLe j (length (box .standing))) [
-      yes o ↦ meter-stays box next H H j (g .connection-same j h o) (joined-other box row j h o) refl (g .counter-more) (m j h o)
+      | yes o ↦ meter-stays box next H H j (g .connection-same j h o) (joined-other box row j h o) refl (g .counter-more) (m j h o)
       | no o ↦ (let e : j ≡ suc (length (box .standing)) = count o l in
-        rw (e, joined-connection box row, joined-allowance box row,
-          slots-none (suc (length (box .standing))) H (λ p n q. let f = k .packets-ok p n .connection-most in omega arith)) (meter-fresh c (next .counter))) ]
+          rw (
+            e,
+            joined-connection box row,
+            joined-allowance box row,
+            slots-none (suc (length (box .standing))) H (λ p n q. let f = k .packets-ok p n .connection-most in omega arith),
+          ) (meter-fresh c (next .counter)))
+    ]
   where
     row : Standing
     row = record { asked = c; allowance = full c }
+
     next : Box
     next = withStanding box (box .standing ++ (row ∷ []))
+
     count : (j ≤ length (box .standing) → ⊥) → j ≤ length (next .standing) → j ≡ suc (length (box .standing))
     count o l = let s : length (box .standing ++ (row ∷ [])) ≡ length (box .standing) + 1 = length-append (box .standing) (row ∷ []) in
-      let t : j ≤ length (box .standing ++ (row ∷ [])) = unfold withStanding in l in omega arith
+        let t : j ≤ length (box .standing ++ (row ∷ [])) = unfold withStanding in l in omega arith
 
 metered-accepts : (box : Box) (H : List Packet) (n units : ℕ) → OfferSays box n units (Offered.Accepted (suc (box .accepted))) →
     Grows box (afterOffer box n units (Offered.Accepted (suc (box .accepted)))) → Known box H → Metered box H →
     Metered (afterOffer box n units (Offered.Accepted (suc (box .accepted)))) (H ++ (newPacket box n units ∷ []))
 metered-accepts box H n units s g k m j h l =
     elim (ℕ-discrete n j) [
-      yes e ↦ rw (← e) mine
-      | no e ↦ meter-stays box next H H′ j (g .connection-same j h more) (charged-other box n units j (r .0) h e) (slots-other j H p e) (g .counter-more) (m j h more) ]
+      | yes e ↦ rw (← e) mine
+      | no e ↦ meter-stays box next H H′ j (g .connection-same j h more) (charged-other box n units j (r .0) h e) (slots-other j H p e) (g .counter-more) (m j h more)
+    ]
   where
     p : Packet
     p = newPacket box n units
+
     H′ : List Packet
     H′ = H ++ (p ∷ [])
+
     next : Box
     next = afterOffer box n units (Offered.Accepted (suc (box .accepted)))
+
     r : (1 ≤ n) × (n ≤ length (box .standing))
     r = within-facts 1 n (length (box .standing)) (unfold stands in s .1)
+
     more : j ≤ length (box .standing)
     more = let t : length (chargedAt box n) ≡ length (box .standing) = unfold chargedAt in length-set (box .standing) (n - 1) _ in
-      let u : j ≤ length (chargedAt box n) = unfold afterOffer in l in omega arith
+        let u : j ≤ length (chargedAt box n) = unfold afterOffer in l in omega arith
+
     c : ConnectionFacts (box .settings) (connection box n)
     c = k .connections-ok _ (connection-member box n (r .0) (r .1))
+
     mine : Meter (connection next n) (allowance next n) (slotsOf n H′) (next .counter)
     mine =
         rw (g .connection-same n (r .0) (r .1), charged-mine box n units (r .0) (r .1), slots-mine n H p refl)

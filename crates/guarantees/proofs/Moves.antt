@@ -122,7 +122,7 @@ move-grows {box} (joins c n e) =
     record {
       settings-same = refl;
       connection-same = λ n h l. unfold connection connections in
-        rw map-append (List·getD-append (map (λ (s : Standing). s .asked) (box .standing)) (c ∷ []) noConnection (n - 1)
+          rw map-append (List·getD-append (map (λ (s : Standing). s .asked) (box .standing)) (c ∷ []) noConnection (n - 1)
           (rw length-map (omega arith)));
       standing-more = rw length-append (omega arith);
       accepted-more = omega arith;
@@ -132,7 +132,7 @@ move-grows {box} (accepts n units s) =
     record {
       settings-same = refl;
       connection-same = λ m h l. unfold connection connections in
-        (let e : map (λ (s : Standing). s .asked) (chargedAt box n) ≡ map (λ (s : Standing). s .asked) (box .standing) = charged-same box n in rw e);
+          (let e : map (λ (s : Standing). s .asked) (chargedAt box n) ≡ map (λ (s : Standing). s .asked) (box .standing) = charged-same box n in rw e);
       standing-more = unfold chargedAt in rw length-set (omega arith);
       accepted-more = omega arith;
       counter-more = omega arith;

@@ -76,15 +76,19 @@ on-time-accepts box H G n units s w k o = record { in-box = inside; departed = d
   where
     next : Box
     next = afterOffer box n units (Offered.Accepted (suc (box .accepted)))
+
     r : (1 ≤ n) × (n ≤ length (box .standing))
     r = within-facts 1 n (length (box .standing)) (unfold stands in s .1)
+
     newest : box .counter < dueBy box n (box .counter)
     newest =
         let c = k .connections-ok _ (connection-member box n (r .0) (r .1)) in
         let b = bound-least (box .settings) (k .settings-ok) (connection box n .class) (c .class-least) (c .class-most) in
         unfold dueBy in omega arith
+
     same : next .counter ≡ box .counter
     same = unfold afterOffer in refl
+
     inside : (p : Packet) → InBox next p → next .counter < dueBy next (p .connection) (p .arrival)
     inside p (inl m) =
         ⊎-elim (λ (e : p ≡ newPacket box n units). rw (e, due-same box next w n (box .counter) (r .0) (r .1), same) newest)
@@ -97,12 +101,13 @@ on-time-steps : (box : Box) (H : List Packet) (G : List Departure) → StepGoes 
     (p : Packet) → InBox (moved box) p → moved box .counter < dueBy (moved box) (p .connection) (p .arrival)
 on-time-steps box H G go w k o k′ c s p i =
     elim (ℕ-discrete (moved box .counter) (dueBy (moved box) (p .connection) (p .arrival))) [
-      yes e ↦ absurd (not-at-bound (moved box) H k′ c s p (in-box-known (moved box) H k′ p i) i (unfold dueBy in e))
+      | yes e ↦ absurd (not-at-bound (moved box) H k′ c s p (in-box-known (moved box) H k′ p i) i (unfold dueBy in e))
       | no e ↦ (let b = o .in-box p (before i) in
-        let f = k .packets-ok p (in-box-known box H k p (before i)) in
-        let d = due-same box (moved box) w (p .connection) (p .arrival) (f .connection-least) (f .connection-most) in
-        let n : moved box .counter ≡ suc (box .counter) = unfold moved in refl in
-        omega arith) ]
+          let f = k .packets-ok p (in-box-known box H k p (before i)) in
+          let d = due-same box (moved box) w (p .connection) (p .arrival) (f .connection-least) (f .connection-most) in
+          let n : moved box .counter ≡ suc (box .counter) = unfold moved in refl in
+          omega arith)
+    ]
   where
     before : InBox (moved box) p → InBox box p
     before (inl m) = in-box-before box (taking box (go .was-sound)) p (inl (stepped-same box .parts p m))
@@ -134,8 +139,10 @@ on-time-moves box next H H′ G G′ k o k′ c s (departs go p left e l) =
     record {
       in-box = on-time-steps box H G go w k o k′ c s;
       departed = λ g m. ⊎-elim (departed-stays box (moved box) G w o g)
-        (λ (h : List·Memᴰ g (leaving box p ∷ [])). rw (List·Memᴰ·eq-of-singleton h)
-          (f .connection-least, let n = f .connection-most in let a = w .standing-more in omega arith,
-            rw (due-same box (moved box) w (p .connection) (p .arrival) (f .connection-least) (f .connection-most)) b))
-        (List·Memᴰ·append-cases G m);
+          (λ (h : List·Memᴰ g (leaving box p ∷ [])). rw (List·Memᴰ·eq-of-singleton h) (
+            f .connection-least,
+            let n = f .connection-most in let a = w .standing-more in omega arith,
+            rw (due-same box (moved box) w (p .connection) (p .arrival) (f .connection-least) (f .connection-most)) b,
+          ))
+          (List·Memᴰ·append-cases G m);
     }

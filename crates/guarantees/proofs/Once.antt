@@ -124,7 +124,7 @@ once-moves box next H H′ G G′ o (departs go p left e l) = λ f.
     unfold ofPackets onLink in sum-one (λ (p : Packet). f (p .serial) (p .connection) (p .arrival)) p in
     let v : ofDepartures f (G ++ (leaving box p ∷ [])) ≡ ofDepartures f G + f (p .serial) (p .connection) (p .arrival) =
     unfold ofDepartures in (sum-append (λ (g : Departure). f (g .serial) (g .connection) (g .arrival)) G (leaving box p ∷ []) ∙
-      ap (λ n. sumOf (λ (g : Departure). f (g .serial) (g .connection) (g .arrival)) G + n) (sum-one (λ (g : Departure). f (g .serial) (g .connection) (g .arrival)) (leaving box p))) in
+    ap (λ n. sumOf (λ (g : Departure). f (g .serial) (g .connection) (g .arrival)) G + n) (sum-one (λ (g : Departure). f (g .serial) (g .connection) (g .arrival)) (leaving box p))) in
     let q = o f in
     let a = ap (λ (l : Link). ofPackets f (onLink l)) m in
     omega arith
@@ -138,11 +138,12 @@ numbered-accepts box H p e k n =
     let b = sum-one g p in
     let c = k n in
     elim (ℕ-discrete (p .serial) n) [
-      yes h ↦ (let x = given-true 1 (eq-eqb (p .serial) n h) in
-        let y = given-false 1 (within-out 1 n (box .accepted) (λ a b. omega arith)) in
-        let z = given-true 1 (within-test 1 n (suc (box .accepted)) (omega arith) (omega arith)) in omega arith)
+      | yes h ↦ (let x = given-true 1 (eq-eqb (p .serial) n h) in
+          let y = given-false 1 (within-out 1 n (box .accepted) (λ a b. omega arith)) in
+          let z = given-true 1 (within-test 1 n (suc (box .accepted)) (omega arith) (omega arith)) in omega arith)
       | no h ↦ (let x = given-false 1 (ne-eqb (p .serial) n h) in
-        let y : within 1 n (suc (box .accepted)) ≡ within 1 n (box .accepted) = other h in rw y (omega arith)) ]
+          let y : within 1 n (suc (box .accepted)) ≡ within 1 n (box .accepted) = other h in rw y (omega arith))
+    ]
   where
     other : (p .serial ≡ n → ⊥) → within 1 n (suc (box .accepted)) ≡ within 1 n (box .accepted)
     other h = ⊎-elim inside outside (bool-cases (within 1 n (box .accepted)))
@@ -152,11 +153,13 @@ numbered-accepts box H p e k n =
             let w = within-facts 1 n (box .accepted) t in
             let u = w .1 in
             within-test 1 n (suc (box .accepted)) (w .0) (omega arith) ∙ sym t
+
         outside : within 1 n (box .accepted) ≡ false → within 1 n (suc (box .accepted)) ≡ within 1 n (box .accepted)
         outside t =
             within-out 1 n (suc (box .accepted)) (λ a b. elim (decLe n (box .accepted)) [
-              yes l ↦ true≢false (sym (within-test 1 n (box .accepted) a l) ∙ t)
-              | no l ↦ h (omega arith) ]) ∙ sym t
+              | yes l ↦ true≢false (sym (within-test 1 n (box .accepted) a l) ∙ t)
+              | no l ↦ h (omega arith)
+            ]) ∙ sym t
 
 -- Every move keeps it.
 pub numbered-moves : (box next : Box) (H H′ : List Packet) (G G′ : List Departure) → Numbered box H → Move box H G next H′ G′ → Numbered next H′

@@ -54,16 +54,18 @@ in-order-last [] d e h = refl
 in-order-last (g ∷ G) d e h =
     let later : Departure → Bool = λ h. not (eqb (g .connection) (h .connection)) || ltb (g .serial) (h .serial) in
     let p = and-eq-true-iff (every later G) (inOrder G) .0 e in
-    and-eq-true-iff (every later (G ++ (d ∷ []))) (inOrder (G ++ (d ∷ []))) .1
-    (every-all later (G ++ (d ∷ [])) (λ x m. ⊎-elim (λ (n : List·Memᴰ x G). every-at later G (p .0) n)
-      (λ (n : List·Memᴰ x (d ∷ [])). rw (List·Memᴰ·eq-of-singleton n) last) (List·Memᴰ·append-cases G m)),
-      in-order-last G d (p .1) (λ x m. h x (List·Memᴰ·tail m)))
+    and-eq-true-iff (every later (G ++ (d ∷ []))) (inOrder (G ++ (d ∷ []))) .1 (
+      every-all later (G ++ (d ∷ [])) (λ x m. ⊎-elim (λ (n : List·Memᴰ x G). every-at later G (p .0) n)
+          (λ (n : List·Memᴰ x (d ∷ [])). rw (List·Memᴰ·eq-of-singleton n) last) (List·Memᴰ·append-cases G m)),
+      in-order-last G d (p .1) (λ x m. h x (List·Memᴰ·tail m)),
+    )
   where
     last : not (eqb (g .connection) (d .connection)) || ltb (g .serial) (d .serial) ≡ true
     last =
         elim (ℕ-discrete (g .connection) (d .connection)) [
-          yes c ↦ or-right (not (eqb (g .connection) (d .connection))) (ltb (g .serial) (d .serial)) (lt-ltb _ _ (h g (List·Memᴰ·head refl) c))
-          | no c ↦ or-left (not (eqb (g .connection) (d .connection))) (ltb (g .serial) (d .serial)) (ap not (ne-eqb _ _ c)) ]
+          | yes c ↦ or-right (not (eqb (g .connection) (d .connection))) (ltb (g .serial) (d .serial)) (lt-ltb _ _ (h g (List·Memᴰ·head refl) c))
+          | no c ↦ or-left (not (eqb (g .connection) (d .connection))) (ltb (g .serial) (d .serial)) (ap not (ne-eqb _ _ c))
+        ]
 
 -- A new box.
 pub ordered-new : (set : Settings) → Ordered (newBox set) []
@@ -84,13 +86,14 @@ ordered-accepts box H G n units s k o =
       counted = λ g m. unfold afterOffer in (let c = o .counted g m in omega arith);
       gone-first = gone;
       link-first = λ p left l x m c. ⊎-elim
-        (λ (e : x ≡ newPacket box n units). let f = k .packets-ok p (k .link-known p left (same p left l) .accepted) .serial-most in
+          (λ (e : x ≡ newPacket box n units). let f = k .packets-ok p (k .link-known p left (same p left l) .accepted) .serial-most in
           let a = ap (λ (p : Packet). p .serial) e in omega arith)
-        (λ (h : List·Memᴰ x (waiting box)). o .link-first p left (same p left l) x h c) (accepted-put box (s .0) n units (s .1) .parts x m);
+          (λ (h : List·Memᴰ x (waiting box)). o .link-first p left (same p left l) x h c) (accepted-put box (s .0) n units (s .1) .parts x m);
     }
   where
     same : (p : Packet) (left : ℕ) → afterOffer box n units (Offered.Accepted (suc (box .accepted))) .link ≡ carries p left → box .link ≡ carries p left
     same p left l = unfold afterOffer in l
+
     gone : (g : Departure) → List·Memᴰ g G → (x : Packet) → InBox (afterOffer box n units (Offered.Accepted (suc (box .accepted)))) x → g .connection ≡ x .connection → g .serial < x .serial
     gone g m x (inl w) c =
         ⊎-elim (λ (e : x ≡ newPacket box n units). let f = o .counted g m in let a = ap (λ (p : Packet). p .serial) e in omega arith)
@@ -119,6 +122,7 @@ ordered-steps box H G go k o =
     before : {x : Packet} → InBox (moved box) x → InBox box x
     before {x} (inl m) = in-box-before box (taking box (go .was-sound)) x (inl (stepped-same box .parts x m))
     before {x} (inr l) = in-box-before box (taking box (go .was-sound)) x (inr (unfold moved in l))
+
     link : (l : Link) → linkTaken (box .link) (box .queues) ≡ l → (p : Packet) (left : ℕ) → linkSent l ≡ carries p left → (x : Packet) →
         List·Memᴰ x (flatten (queuesTaken (box .link) (box .queues))) → p .connection ≡ x .connection → p .serial < x .serial
     link free e p left h x m c = absurd (let z : _≡_ {A = ℕ} 0 1 = unfold linkSent in cc in omega arith)
@@ -135,18 +139,19 @@ ordered-departs box H G go k o p left e l =
     record {
       so-far = in-order-last G (leaving box p) (o .so-far) (λ g m c. o .gone-first g m p i c);
       counted = λ g m. ⊎-elim (s .counted g) (λ (n : List·Memᴰ g (leaving box p ∷ [])). unfold moved in
-        (let f = k .packets-ok p (in-box-known box H k p i) .serial-most in let a = ap (λ (g : Departure). g .serial) (List·Memᴰ·eq-of-singleton n) in omega arith))
-        (List·Memᴰ·append-cases G m);
+          (let f = k .packets-ok p (in-box-known box H k p i) .serial-most in let a = ap (λ (g : Departure). g .serial) (List·Memᴰ·eq-of-singleton n) in omega arith))
+          (List·Memᴰ·append-cases G m);
       gone-first = λ g m x j c. ⊎-elim (λ (n : List·Memᴰ g G). s .gone-first g n x j c)
-        (λ (n : List·Memᴰ g (leaving box p ∷ [])). let y = List·Memᴰ·eq-of-singleton n in
+          (λ (n : List·Memᴰ g (leaving box p ∷ [])). let y = List·Memᴰ·eq-of-singleton n in
           let a = ap (λ (g : Departure). g .serial) y in let b = ap (λ (g : Departure). g .connection) y in
           let r = only x j (sym b ∙ c) in omega arith)
-        (List·Memᴰ·append-cases G m);
+          (List·Memᴰ·append-cases G m);
       link-first = s .link-first;
     }
   where
     link-free : moved box .link ≡ free
     link-free = unfold moved linkSent in rw (e, l)
+
     only : (x : Packet) → InBox (moved box) x → p .connection ≡ x .connection → p .serial < x .serial
     only x (inl m) c = sends-first box H G k o (taking box (go .was-sound)) p left e x (stepped-same box .parts x m) c
     only x (inr j) c = absurd (let h = j .1 in let f = link-free in let z : _≡_ {A = ℕ} 0 1 = cc in omega arith)

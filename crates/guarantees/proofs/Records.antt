@@ -32,7 +32,7 @@ pub joined-other : (box : Box) (row : Standing) (j : ℕ) → 1 ≤ j → j ≤ 
 unfolding allowance withStanding
 joined-other box row j h l =
     rw map-append (List·getD-append (map (λ (s : Standing). s .allowance) (box .standing)) (row .allowance ∷ []) (full noConnection) (j - 1)
-      (rw length-map (omega arith)))
+    (rw length-map (omega arith)))
 
 pub joined-allowance : (box : Box) (row : Standing) → allowance (withStanding box (box .standing ++ (row ∷ []))) (suc (length (box .standing))) ≡ row .allowance
 unfolding allowance withStanding

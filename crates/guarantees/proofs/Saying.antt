@@ -46,7 +46,7 @@ admission-says box c =
         (f : Bool) → leb mostConnections (length (box .standing)) ≡ f → (r : Bool) → rateHolds (box .settings) (withNewcomer box c) ≡ r →
         (q : Search) → finiteSearch (box .settings) (withNewcomer box c) ≡ q →
         AdmissionSays box c (cond (not s) Admitted.NotSound (cond (not a) Admitted.OffRange (cond f Admitted.TableFull
-          (cond (not r) Admitted.RateExceeded (searchAnswer (suc (length (box .standing))) q)))))
+        (cond (not r) Admitted.RateExceeded (searchAnswer (suc (length (box .standing))) q)))))
     go false s a a' f f' r r' q q' = s
     go true s false a f f' r r' q q' = (s, a)
     go true s true a true f r r' q q' = (s, a, f)
@@ -81,7 +81,7 @@ offer-says box n units =
         (r : Bool) → conforms (connection box n) (allowance box n) (box .counter) ≡ r →
         (q : Bool) → leb mostWaiting (length (waiting box)) ≡ q →
         OfferSays box n units (cond (not s) Offered.NotSound (cond (not a) Offered.NoConnection (cond (not f) Offered.WrongLength
-          (cond (not r) Offered.NotFitting (cond q Offered.StoreFull (Offered.Accepted (suc (box .accepted))))))))
+        (cond (not r) Offered.NotFitting (cond q Offered.StoreFull (Offered.Accepted (suc (box .accepted))))))))
     go false s a a' f f' r r' q q' = s
     go true s false a f f' r r' q q' = (s, a)
     go true s true a false f r r' q q' = (s, a, f)
@@ -118,6 +118,7 @@ step-says box =
         StepSays box (cond b (Stepped.Departed (p .serial) (p .connection) (p .arrival) (suc (box .counter))) (Stepped.Sending (p .serial) (units - 1)))
     sent g p units l true e = (g, p, units, l, e, refl, refl, refl, refl)
     sent g p units l false e = (g, p, units, l, e)
+
     go : (s : Bool) → sound box ≡ s → (a : Bool) → leb lastSlot (box .counter) ≡ a →
         (f : Bool) → turnDue box && tagZeroWaits (queuesTaken (box .link) (box .queues)) ≡ f →
         (l : Link) → linkTaken (box .link) (box .queues) ≡ l →

@@ -40,8 +40,8 @@ closed-before box next H H′ q g k more closed x y m n before =
     let b = rank-stays g y (k .packets-ok y n) in
     closed x y (more x m) (more y n)
     (⊎-elim (λ (l : rankIn box x < rankIn box y). inl (let z : rankIn next x < rankIn next y = omega arith in z))
-      (λ (e : (rankIn box x ≡ rankIn box y) × (x .serial < y .serial)). inr (let f = e .0 in let z : rankIn next x ≡ rankIn next y = omega arith in z, e .1))
-      before)
+    (λ (e : (rankIn box x ≡ rankIn box y) × (x .serial < y .serial)). inr (let f = e .0 in let z : rankIn next x ≡ rankIn next y = omega arith in z, e .1))
+    before)
 
 -- A new box has nothing to send.
 pub scheduled-new : (set : Settings) → Scheduled (newBox set) []
@@ -56,6 +56,7 @@ scheduled-steps box H go g k s q closed =
   where
     here : Closed box H q
     here = closed-before box (moved box) H H q g k (λ x m. m) closed
+
     step : {l : Link} {W W′ : List Packet} → Taking box l W → Same W W′ → Backlog q (box .counter) (waiting box) (box .link) H →
         Backlog q (suc (box .counter)) W′ (linkSent l) H
     step (nothing e w) same b = unfold linkSent in idle-keeps q (suc (box .counter)) _ H same
@@ -63,7 +64,7 @@ scheduled-steps box H go g k s q closed =
         let c = k .packets-ok p (k .waiting-known p there) in
         send-keeps q (box .counter) W _ H p (p .units) (c .units-least) same
         (take-keeps q (box .counter) (waiting box) W H p put there others
-          (λ x m h. here p x (k .waiting-known p there) (k .waiting-known x (others x m)) (first x m) h) (subst (λ (l : Link). Backlog q (box .counter) (waiting box) l H) e b))
+        (λ x m h. here p x (k .waiting-known p there) (k .waiting-known x (others x m)) (first x m) h) (subst (λ (l : Link). Backlog q (box .counter) (waiting box) l H) e b))
     step (carrying p left e) same b = send-keeps q (box .counter) (waiting box) _ H p left (k .link-known p left e .some-left) same
         (subst (λ (l : Link). Backlog q (box .counter) (waiting box) l H) e b)
 
@@ -75,8 +76,8 @@ unfolding afterOffer
 scheduled-accepts box H n units says g k s q closed =
     let before = s q (closed-before box _ H _ q g k (λ x m. Memᴰ·append-left (newPacket box n units ∷ []) m) closed) in
     accept-keeps q (box .counter) (waiting box) (waiting (afterOffer box n units (Offered.Accepted (suc (box .accepted)))))
-        (box .link) H (newPacket box n units) (accepted-put box (says .0) n units (says .1)) refl
-        (λ x m. k .packets-ok x (k .waiting-known x m) .units-least) (k .link-known) before
+    (box .link) H (newPacket box n units) (accepted-put box (says .0) n units (says .1)) refl
+    (λ x m. k .packets-ok x (k .waiting-known x m) .units-least) (k .link-known) before
 
 -- Every move keeps the fact.
 pub scheduled-moves : (box next : Box) (H H′ : List Packet) (G G′ : List Departure) → Known box H → Scheduled box H →
@@ -84,7 +85,7 @@ pub scheduled-moves : (box next : Box) (H H′ : List Packet) (G G′ : List Dep
 scheduled-moves box next H H′ G G′ k s refused = s
 scheduled-moves box next H H′ G G′ k s (joins c n e) =
     λ q closed. unfold withStanding waiting in
-      s q (closed-before box _ H H q (move-grows {H = H} {G = G} (joins c n e)) k (λ x m. m) closed)
+    s q (closed-before box _ H H q (move-grows {H = H} {G = G} (joins c n e)) k (λ x m. m) closed)
 scheduled-moves box next H H′ G G′ k s (accepts n units says) =
     scheduled-accepts box H n units says (move-grows {H = H} {G = G} (accepts n units says)) k s
 scheduled-moves box next H H′ G G′ k s (idles go e) = scheduled-steps box H go (move-grows {H = H} {G = G} (idles go e)) k s

@@ -48,22 +48,23 @@ module _ (q : Packet → Bool) where
             rest = b .rest;
             begun = b .begun;
             account = (let s = put .sums (λ p. given (q p) (p .units)) in let g = given-false (p .units) (ap not e) in
-              let a = b .account in omega arith);
+                let a = b .account in omega arith);
             waits = λ x m h. b .waits x (others x m) h;
             carried = λ x left k h. let c : x ≡ p = cc in rw c (b .waits p there e);
             way = b .way;
           })
+
       other : q p ≡ false → Backlog q slot W₁ (carries p (p .units)) H
       other e =
           inl (let g = given-false (p .units) e in
-            let w = sum-zero (λ p. given (q p) (p .units)) W₁
-              (λ x m. given-false (x .units) (⊎-elim (λ (h : q x ≡ true). absurd (true≢false (sym (closed x m h) ∙ e))) (λ h. h) (bool-cases (q x)))) in
-            omega arith)
+          let w = sum-zero (λ p. given (q p) (p .units)) W₁
+          (λ x m. given-false (x .units) (⊎-elim (λ (h : q x ≡ true). absurd (true≢false (sym (closed x m h) ∙ e))) (λ h. h) (bool-cases (q x)))) in
+          omega arith)
 
   -- One unit less is to be sent of what is on the link.
   sent-work : (p : Packet) (left : ℕ) → 1 ≤ left →
       (linkWork q (linkSent (carries p left)) + linkOther q (linkSent (carries p left)) + 1 ≡
-        linkWork q (carries p left) + linkOther q (carries p left)) ×
+      linkWork q (carries p left) + linkOther q (carries p left)) ×
       (linkWork q (linkSent (carries p left)) ≤ linkWork q (carries p left))
   unfolding linkWork linkOther
   sent-work p left h = ⊎-elim (λ c. rw (c .1) (last (c .0) (bool-cases (q p)))) (λ c. rw (c .1) (more (c .0) (bool-cases (q p)))) (sent-cases p left)
@@ -71,6 +72,7 @@ module _ (q : Packet → Bool) where
       last : left ≤ 1 → (q p ≡ true) ⊎ (q p ≡ false) → (0 + 0 + 1 ≡ given (q p) left + given (not (q p)) left) × (0 ≤ given (q p) left)
       last l (inl e) = let a = given-true left e in let b = given-false left (ap not e) in (omega arith, omega arith)
       last l (inr e) = let a = given-false left e in let b = given-true left (ap not e) in (omega arith, omega arith)
+
       more : 2 ≤ left → (q p ≡ true) ⊎ (q p ≡ false) →
           (given (q p) (left - 1) + given (not (q p)) (left - 1) + 1 ≡ given (q p) left + given (not (q p)) left) ×
           (given (q p) (left - 1) ≤ given (q p) left)

@@ -76,14 +76,19 @@ module _ (set : Settings) (allowed : settingsAllowed set ≡ true) (calls : List
     where
       box : Box
       box = boxOf set calls
+
       a : Always box (acceptedOf set calls) (departedOf set calls)
       a = always set allowed calls
+
       r : (1 ≤ n) × (n ≤ length (box .standing))
       r = within-facts 1 n (length (box .standing)) (unfold stands in s)
+
       c : ConnectionFacts (box .settings) (connection box n)
       c = a .known .connections-ok _ (connection-member box n (r .0) (r .1))
+
       conforming : conforms (connection box n) (allowance box n) (box .counter) ≡ true
       conforming = meter-answers (connection box n) (allowance box n) (slotsOf n (acceptedOf set calls)) (box .counter) (c .period-least) (c .burst-least) (a .metered n (r .0) (r .1)) ∙ f
+
       go : (o : Offered) → offerAnswer box n units ≡ o → OfferSays box n units o →
           (o ≡ Offered.Accepted (suc (box .accepted))) ⊎ ((o ≡ Offered.StoreFull) × (length (waiting box) ≡ mostWaiting))
       go Offered.NotSound e says = absurd (true≢false (sym every-run-sound ∙ says))
@@ -138,29 +143,40 @@ module _ (set : Settings) (allowed : settingsAllowed set ≡ true) (calls : List
   pub never-late : (p : Packet) → List·Memᴰ p (acceptedOf set calls) → dueBy (boxOf set calls) (p .connection) (p .arrival) ≤ boxOf set calls .counter →
       (g : Departure) × List·Memᴰ g (departedOf set calls) × ((g .serial ≡ p .serial) × (g .connection ≡ p .connection) × (g .arrival ≡ p .arrival)) ×
       (g .departure ≤ dueBy (boxOf set calls) (p .connection) (p .arrival))
-  never-late p m due = (found .0, found .1, same, subst (λ c. found .0 .departure ≤ dueBy box c (p .arrival)) (same .1)
-      (subst (λ a. found .0 .departure ≤ dueBy box (found .0 .connection) a) (same .2) (departs-by-its-bound (found .0) (found .1))))
+  never-late p m due = (
+    found .0,
+    found .1,
+    same,
+    subst (λ c. found .0 .departure ≤ dueBy box c (p .arrival)) (same .1)
+        (subst (λ a. found .0 .departure ≤ dueBy box (found .0 .connection) a) (same .2) (departs-by-its-bound (found .0) (found .1))),
+  )
     where
       box : Box
       box = boxOf set calls
+
       a : Always box (acceptedOf set calls) (departedOf set calls)
       a = always set allowed calls
+
       t : ℕ → ℕ → ℕ → Bool
       t = marks (p .serial) (p .connection) (p .arrival)
+
       not-inside : (x : Packet) → InBox box x → t (x .serial) (x .connection) (x .arrival) ≡ false
       not-inside x i =
           ⊎-elim (λ (e : t (x .serial) (x .connection) (x .arrival) ≡ true).
-            let f = marks-facts _ _ _ _ _ _ e in
-            let d : dueBy box (x .connection) (x .arrival) ≡ dueBy box (p .connection) (p .arrival) = rw (f .1, f .2) in
-            absurd (let b = in-the-box-before-bound x i in omega arith))
+          let f = marks-facts _ _ _ _ _ _ e in
+          let d : dueBy box (x .connection) (x .arrival) ≡ dueBy box (p .connection) (p .arrival) = rw (f .1, f .2) in
+          absurd (let b = in-the-box-before-bound x i in omega arith))
           (λ e. e) (bool-cases (t (x .serial) (x .connection) (x .arrival)))
+
       none-waits : ofPackets (λ s c a. given (t s c a) 1) (waiting box) ≡ 0
       none-waits = unfold ofPackets in sum-zero (λ x. given (t (x .serial) (x .connection) (x .arrival)) 1) (waiting box) (λ x n. given-false 1 (not-inside x (inl n)))
+
       none-carried : (l : Link) → box .link ≡ l → ofPackets (λ s c a. given (t s c a) 1) (onLink l) ≡ 0
       none-carried free e = unfold ofPackets onLink sumOf in refl
       none-carried (carries x left) e =
           unfold ofPackets onLink in
           (sum-one (λ (x : Packet). given (t (x .serial) (x .connection) (x .arrival)) 1) x ∙ given-false 1 (not-inside x (inr (left, e))))
+
       counted : 1 ≤ ofDepartures (λ s c a. given (t s c a) 1) (departedOf set calls)
       counted =
           let o = a .once (λ s c a. given (t s c a) 1) in
@@ -170,7 +186,9 @@ module _ (set : Settings) (allowed : settingsAllowed set ≡ true) (calls : List
           let w = none-waits in
           let l = none-carried (box .link) refl in
           omega arith
+
       found : (g : Departure) × List·Memᴰ g (departedOf set calls) × (t (g .serial) (g .connection) (g .arrival) ≡ true)
       found = sum-found (λ g. t (g .serial) (g .connection) (g .arrival)) (departedOf set calls) (unfold ofDepartures in counted)
+
       same : (found .0 .serial ≡ p .serial) × (found .0 .connection ≡ p .connection) × (found .0 .arrival ≡ p .arrival)
       same = marks-facts _ _ _ _ _ _ (found .2)

@@ -70,6 +70,7 @@ fitting-keeps c period at slots d f w x t = go (within x at (x + t)) refl
   where
     outside : within x at (x + t) ≡ false → countIn (at ∷ slots) x (x + t) ≤ mayHave c t
     outside e = unfold countIn sumOf in rw e (let i : sumOf (λ a. cond (within x a (x + t)) 1 0) slots ≤ mayHave c t = w x t in omega arith)
+
     go : (b : Bool) → within x at (x + t) ≡ b → countIn (at ∷ slots) x (x + t) ≤ mayHave c t
     go false e = outside e
     go true e =

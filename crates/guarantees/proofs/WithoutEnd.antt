@@ -36,7 +36,7 @@ envelope-laws set c f =
       neverFalls = λ t u h. mul-le-mul-left (c .longest) (let d = div-mono (c .period) (f .period-least) h in omega arith);
       atStart = let m = mul-le-mul-left {m = 1} {n = c .burst + 0 / c .period} (c .longest) (let b = f .burst-least in omega arith) in omega arith;
       repeats = λ t. let d = div-add-multiple t (set .cycle) (c .period) (f .period-least) (f .period-divides) in
-        ap (λ n. c .longest * (c .burst + n)) d ∙ (omega arith);
+          ap (λ n. c .longest * (c .burst + n)) d ∙ (omega arith);
     }
 
 -- An envelope that is put off by d repeats once t has reached d.
@@ -56,6 +56,7 @@ term-repeats set c s g t law h = by-class (eqb (c .class) 1)
   where
     d : ℕ
     d = bound set (c .class)
+
     by-class : (b : Bool) →
         cond b (delayed (envelope c) d (t + set .cycle)) (delayed (envelope c) d (t + set .cycle + set .interval)) ≡
         cond b (delayed (envelope c) d t) (delayed (envelope c) d (t + set .interval)) + g
@@ -86,9 +87,11 @@ condition-facts set cs t e =
 pub condition-test : (set : Settings) (cs : List Connection) (t : ℕ) → ConditionFacts set cs t → conditionAt set cs t ≡ true
 unfolding conditionAt eleven twelve twelveRange
 condition-test set cs t f =
-    and-eq-true-iff (eleven set cs t) (twelve set cs t) .1
-    (le-leb _ _ (f .eleven-holds), out-or-in (leb (bound set 1) t) (ltb (t + set .interval) (largestBound set))
-      (λ a b. le-leb _ _ (f .twelve-holds (leb-true _ _ a) (ltb-true _ _ b))))
+    and-eq-true-iff (eleven set cs t) (twelve set cs t) .1 (
+      le-leb _ _ (f .eleven-holds),
+      out-or-in (leb (bound set 1) t) (ltb (t + set .interval) (largestBound set))
+          (λ a b. le-leb _ _ (f .twelve-holds (leb-true _ _ a) (ltb-true _ _ b))),
+    )
   where
     out-or-in : {c : Bool} (a b : Bool) → (a ≡ true → b ≡ true → c ≡ true) → not (a && b) || c ≡ true
     out-or-in true true h = h refl refl
@@ -103,8 +106,8 @@ module _ (set : Settings) (sf : SettingsFacts set) (cs : List Connection)
   unfolding sumAt rate gain
   sum-repeats t h =
       sum-same (term set (t + set .cycle)) (λ c. term set t c + gain set c) cs
-          (λ c m. let f = facts c m in let b = bound-most set sf (c .class) (f .class-least) (f .class-most) in
-            term-repeats set c (c .longest) (gain set c) t (laws c m) (omega arith)) ∙
+      (λ c m. let f = facts c m in let b = bound-most set sf (c .class) (f .class-least) (f .class-most) in
+      term-repeats set c (c .longest) (gain set c) t (laws c m) (omega arith)) ∙
       sum-add (term set t) (gain set) cs
 
   -- "all t follow from t = 0 to dP + M - 1, because each envelope repeats with M."

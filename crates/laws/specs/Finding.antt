@@ -20,12 +20,14 @@ search-fails test (suc n) t false e u q =
     (omega arith, record { starts = omega arith; fails = cc; below = λ k h l. absurd (omega arith) })
 search-fails test (suc n) t true e u q =
     let r = search-fails test n (suc t) (test (suc t)) refl u q in
-    let least = r .1 in
-    (omega arith, record {
-      starts = omega arith;
-      fails = least .fails;
-      below = λ k h l. elim (decLt t k) [ yes m ↦ least .below k m l | no m ↦ let s : k ≡ t = omega arith in rw s e ];
-    })
+    let least = r .1 in (
+      omega arith,
+      record {
+        starts = omega arith;
+        fails = least .fails;
+        below = λ k h l. elim (decLt t k) [ yes m ↦ least .below k m l | no m ↦ let s : k ≡ t = omega arith in rw s e ];
+      },
+    )
 
 search-holds : (test : ℕ → Bool) (n t : ℕ) (b : Bool) → test t ≡ b → searchFrom test n t b ≡ holds → (k : ℕ) → t ≤ k → k < t + n → test k ≡ true
 unfolding searchFrom

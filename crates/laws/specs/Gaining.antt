@@ -21,12 +21,15 @@ module _ (S : ℕ → ℕ) (from M g : ℕ) (repeats : (t : ℕ) → from ≤ t 
   up-to : g ≤ M → 1 ≤ M → ((t : ℕ) → t < from + M → S t ≤ t) → (n t : ℕ) → t < n → S t ≤ t
   up-to h m base zero t l = absurd (omega arith)
   up-to h m base (suc n) t l =
-      elim (decLt t (from + M)) [ yes s ↦ base t s | no s ↦
-        let i = up-to h m base n (t - M) (omega arith) in
-        let r = repeats (t - M) (omega arith) in
-        let e : t - M + M ≡ t = omega arith in
-        let q = ap S e in
-        omega arith ]
+      elim (decLt t (from + M)) [
+        | yes s ↦ base t s
+        | no s ↦
+            let i = up-to h m base n (t - M) (omega arith) in
+            let r = repeats (t - M) (omega arith) in
+            let e : t - M + M ≡ t = omega arith in
+            let q = ap S e in
+            omega arith
+      ]
 
   -- if it gains at most M, the slots below from + M decide for all
   pub all-follow : g ≤ M → 1 ≤ M → ((t : ℕ) → t < from + M → S t ≤ t) → (t : ℕ) → S t ≤ t

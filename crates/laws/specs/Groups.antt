@@ -39,8 +39,9 @@ unfolding across
 across-one at m n zero h l = absurd (omega arith)
 across-one at m n (suc k) h l =
     elim (decLt n at) [
-      yes o ↦ (let e = given-false m (ne-eqb at n (omega arith)) in let i = across-one at m (suc n) k o (omega arith) in omega arith)
-      | no o ↦ (let e = given-true m (eq-eqb at n (omega arith)) in let i = across-none at m (suc n) k (omega arith) in omega arith) ]
+      | yes o ↦ (let e = given-false m (ne-eqb at n (omega arith)) in let i = across-one at m (suc n) k o (omega arith) in omega arith)
+      | no o ↦ (let e = given-true m (eq-eqb at n (omega arith)) in let i = across-none at m (suc n) k (omega arith) in omega arith)
+    ]
 
 -- the part of the sum of f that group j has; `group` numbers the elements
 unfoldable pub partOf : {A : Type 0} → (A → ℕ) → (A → ℕ) → List A → ℕ → ℕ
@@ -86,5 +87,5 @@ across-spare g f (a ∷ l) d n m (suc at) b s h =
     let y = ap g e in
     let e : n + suc at ≡ suc n + at = omega arith in
     let i = across-spare g f l d (suc n) m at (omega arith) (rw e at s)
-        (λ i b. let e : n + suc i ≡ suc n + i = omega arith in rw e at (h (suc i) (omega arith))) in
+    (λ i b. let e : n + suc i ≡ suc n + i = omega arith in rw e at (h (suc i) (omega arith))) in
     omega arith

@@ -31,8 +31,10 @@ getD-last (x ∷ l) a d (suc i) =
   where
     same-place : (i j : ℕ) → eqb (suc i) (suc j) ≡ eqb i j
     same-place i j =
-        elim (ℕ-discrete i j) [ yes e ↦ eq-eqb (suc i) (suc j) (omega arith) ∙ sym (eq-eqb i j e)
-          | no e ↦ ne-eqb (suc i) (suc j) (λ q. e (omega arith)) ∙ sym (ne-eqb i j e) ]
+        elim (ℕ-discrete i j) [
+          | yes e ↦ eq-eqb (suc i) (suc j) (omega arith) ∙ sym (eq-eqb i j e)
+          | no e ↦ ne-eqb (suc i) (suc j) (λ q. e (omega arith)) ∙ sym (ne-eqb i j e)
+        ]
 
 -- setting goes with mapping
 pub map-set : {A B : Type 0} (f : A → B) (l : List A) (i : ℕ) (a : A) → map f (set l i a) ≡ set (map f l) i (f a)

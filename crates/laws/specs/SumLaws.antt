@@ -70,6 +70,7 @@ module _ {A : Type 0} where
     where
       later : test a ≡ false → 1 ≤ sumOf (λ a. given (test a) 1) l
       later e = let g = given-false 1 e in omega arith
+
       go : (1 ≤ sumOf (λ a. given (test a) 1) l → (x : A) × List·Memᴰ x l × (test x ≡ true)) → (b : Bool) → test a ≡ b →
           (x : A) × List·Memᴰ x (a ∷ l) × (test x ≡ true)
       go rest true e = (a, List·Memᴰ·head refl, e)
