@@ -1,14 +1,15 @@
 -- Facts about numbers and lists that no document names, one place for all crates.
-pub mod Tests
+pub mod Division
+pub mod Finding
+pub mod Gaining
+pub mod Groups
 pub mod Lists
+pub mod Places
+pub mod Putting
 pub mod Quotients
 pub mod Search
-pub mod Sums
-pub mod Finding
-pub mod Division
+pub mod Series
 pub mod SumLaws
-pub mod Gaining
+pub mod Sums
+pub mod Tests
 pub mod Turns
-pub mod Putting
-pub mod Places
-pub mod Groups

@@ -80,21 +80,21 @@ pub data Refilled (c : Connection) (at : ℕ) (a : Allowance) (v : ℕ) : Type 0
       → Refilled c at a v
 
 -- The record once the credits that came back are put in, where they do not fill it.
-refilled-some : (c : Connection) (at : ℕ) (a : Allowance) → a .credit + cameBack c a at < c .burst
+pub refilled-some : (c : Connection) (at : ℕ) (a : Allowance) → a .credit + cameBack c a at < c .burst
     → refilled c a at ≡ record { next = a .next + cameBack c a at * c .period; credit = a .credit + cameBack c a at }
 unfolding refilled
 refilled-some c at a h = rw (lt-leb (c .burst) (a .credit + cameBack c a at) h) refl
 
-refilled-all : (c : Connection) (at : ℕ) (a : Allowance) → c .burst ≤ a .credit + cameBack c a at → refilled c a at ≡ full c
+pub refilled-all : (c : Connection) (at : ℕ) (a : Allowance) → c .burst ≤ a .credit + cameBack c a at → refilled c a at ≡ full c
 unfolding refilled
 refilled-all c at a h = rw (le-leb (c .burst) (a .credit + cameBack c a at) h) refl
 
 -- The credits that came back: none before the slot `next`; from it on one, and one more for each T.
-none-back : (c : Connection) (at : ℕ) (a : Allowance) → at < a .next → cameBack c a at ≡ 0
+pub none-back : (c : Connection) (at : ℕ) (a : Allowance) → at < a .next → cameBack c a at ≡ 0
 unfolding cameBack
 none-back c at a h = rw (lt-leb (a .next) at h) refl
 
-some-back : (c : Connection) (at : ℕ) (a : Allowance) → a .next ≤ at → cameBack c a at ≡ suc ((at - a .next) / c .period)
+pub some-back : (c : Connection) (at : ℕ) (a : Allowance) → a .next ≤ at → cameBack c a at ≡ suc ((at - a .next) / c .period)
 unfolding cameBack
 some-back c at a h = rw (le-leb (a .next) at h) refl
 

@@ -1,0 +1,2 @@
+-- What the contracts of the allowance cite.
+pub mod Record

@@ -1,0 +1,25 @@
+-- The allowance as the code has it, and the allowance of document 01 that it means.
+use Prim.Native.Nat.{ℕ, _≤_}
+use mathlib.Core.Path.{_≡_}
+use mathlib.Core.Bool.{true}
+use Rattle.meaning.specs.Numbers.{Connection, lastSlot}
+use Rattle.meaning.specs.Envelope.{allowanceKept}
+use Rattle.meaning.specs.Envelope as Envelope
+use Rattle.envelope.specs.declared.Allowance.{Allowance}
+
+-- The allowance of document 01 that this one means.
+abbrev pub meant : Allowance → Envelope.Allowance
+meant a = record { next = a .next; credit = a .credit }
+
+-- A connection of this burst and period: the envelope uses no more of it.
+abbrev pub sender : ℕ → ℕ → Connection
+sender burst period = record { class = 0; longest = 0; burst = burst; period = period }
+
+-- What the functions ask: numbers in the ranges of the table, and an allowance in its range at this slot.
+pub record Ready (burst period : ℕ) (a : Allowance) (slot : ℕ) : Type 0 where
+  pub burst-least : 1 ≤ burst
+  pub burst-most : burst ≤ 64
+  pub period-least : 1 ≤ period
+  pub period-most : period ≤ 4096
+  pub slot-most : slot ≤ lastSlot
+  pub kept : allowanceKept (sender burst period) slot (meant a) ≡ true

@@ -1,0 +1,69 @@
+// The allowance of one connection: does a packet conform, and the charge of an accepted one. Document 01, "Envelope".
+ghost use mathlib.Core.Path.{_≡_};
+ghost use mathlib.Core.Bool.{true};
+ghost use Rattle.meaning.specs.Envelope.{full, refilled, conforms, charged as chargedIs};
+ghost use Rattle.envelope.specs.Record.{meant, sender, Ready};
+
+// The next conforming slot and the burst credit.
+pub struct Allowance {
+    pub next: u32,
+    pub credit: u32,
+}
+
+// The allowance of a connection with all its credits.
+pub fn fresh(burst: u32) -> Allowance
+    ensures { λ r. ⌜ meant r ≡ full (sender burst 0) ⌝ }
+{
+    Allowance {
+        next: 0,
+        credit: burst,
+    }
+}
+
+// The allowance with the credits put in that have come back by this slot: one at the slot `next`, and one more after each period.
+pub fn refill(burst: u32, period: u32, a: Allowance, slot: u32) -> Allowance
+    requires { ⌜ Ready burst period a slot ⌝ }
+    ensures { λ r. ⌜ meant r ≡ refilled (sender burst period) (meant a) slot ⌝ }
+{
+    let next = a.next;
+    let credit = a.credit;
+    if slot < next {
+        return a;
+    }
+    let back = (slot - next) / period + 1;
+    if burst - credit <= back {
+        return fresh(burst);
+    }
+    Allowance {
+        next: next + back * period,
+        credit: credit + back,
+    }
+}
+
+// Whether a packet at this slot conforms.
+pub fn conforming(burst: u32, period: u32, a: Allowance, slot: u32) -> bool
+    requires { ⌜ Ready burst period a slot ⌝ }
+    ensures { λ r. ⌜ r ≡ conforms (sender burst period) (meant a) slot ⌝ }
+{
+    let now = refill(burst, period, a, slot);
+    1 <= now.credit
+}
+
+// The allowance once an accepted packet is charged: one credit less, and from a full allowance the next one comes back after a period.
+pub fn charged(burst: u32, period: u32, a: Allowance, slot: u32) -> Allowance
+    requires { ⌜ Ready burst period a slot × (conforms (sender burst period) (meant a) slot ≡ true) ⌝ }
+    ensures { λ r. ⌜ meant r ≡ chargedIs (sender burst period) (meant a) slot ⌝ }
+{
+    let now = refill(burst, period, a, slot);
+    let credit = now.credit;
+    if credit == burst {
+        return Allowance {
+            next: slot + period,
+            credit: burst - 1,
+        };
+    }
+    Allowance {
+        next: now.next,
+        credit: credit - 1,
+    }
+}

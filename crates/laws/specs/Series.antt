@@ -1,0 +1,230 @@
+-- Lists made by counting: what a function gives at a start, and at every step from there.
+use Prim.Native.Nat.{ℕ, zero, suc, _+_, _*_, _-_, _%_, _≤_, _<_}
+use mathlib.Core.Path.{_≡_, refl, sym, ap, _∙_}
+use mathlib.Core.Bool.{Bool, true, false, _&&_, and-eq-true-iff}
+use mathlib.Core.List.{List, [], _∷_, _++_, map, flatten, append-assoc, append-nil}
+use native.Mathlib.Omega.{arith}
+use native.Mathlib.Numerals.{add-one}
+use native.Mathlib.Nat.{mod-eq-of-lt, add-mod-right}
+use lib.ListN.{length, getD, take, drop, replicate, length-append}
+use lib.Seq.{drop-cons, drop-drop, drop-at, getD-drop, ext-getD}
+use lib.Dec.{eqb}
+use borrow.Author.Tests.{eqb-true}
+use Rattle.laws.specs.Tests.{every}
+
+-- f at `start`, at `start + step` and so on, n values in all
+unfoldable pub series : {A : Type 0} → (ℕ → A) → ℕ → ℕ → ℕ → List A
+series f step start zero = []
+series f step start (suc n) = f start ∷ series f step (start + step) n
+
+module _ {A : Type 0} (f : ℕ → A) (step : ℕ) where
+  pub length-series : (start n : ℕ) → length (series f step start n) ≡ n
+  unfolding series
+  length-series start zero = refl
+  length-series start (suc n) = ap suc (length-series (start + step) n)
+
+  pub getD-series : (start n i : ℕ) (d : A) → i < n → getD (series f step start n) i d ≡ f (start + step * i)
+  unfolding series
+  getD-series start zero i d h = absurd (omega arith)
+  getD-series start (suc n) zero d h = let e : start ≡ start + step * 0 = omega arith in ap f e
+  getD-series start (suc n) (suc i) d h =
+      getD-series (start + step) n i d (omega arith) ∙ (let e : start + step + step * i ≡ start + step * suc i = omega arith in ap f e)
+
+  pub series-append : (start n m : ℕ) → series f step start (n + m) ≡ series f step start n ++ series f step (start + step * n) m
+  unfolding series
+  series-append start zero m =
+      (let a : 0 + m ≡ m = omega arith in
+      let b : start ≡ start + step * 0 = omega arith in
+      ap (λ k. series f step start k) a ∙ ap (λ k. series f step k m) b)
+  series-append start (suc n) m =
+      (let a : suc n + m ≡ suc (n + m) = omega arith in
+      let b : start + step + step * n ≡ start + step * suc n = omega arith in
+      ap (λ k. series f step start k) a ∙ ap (λ l. f start ∷ l) (series-append (start + step) n m) ∙
+      ap (λ k. f start ∷ (series f step (start + step) n ++ series f step k m)) b)
+
+  -- one value more at the end
+  pub series-last : (start n : ℕ) → series f step start (suc n) ≡ series f step start n ++ (f (start + step * n) ∷ [])
+  unfolding series
+  series-last start n = (let a : suc n ≡ n + 1 = omega arith in ap (λ k. series f step start k) a ∙ series-append start n 1)
+
+  -- what is left of a count, with one value read
+  pub series-next : (start n i : ℕ) → i < n → series f step start (n - i) ≡ f start ∷ series f step (start + step) (n - (i + 1))
+  unfolding series
+  series-next start n i h = let e : n - i ≡ suc (n - (i + 1)) = omega arith in ap (λ k. series f step start k) e
+
+  pub series-done : (start n i : ℕ) → n ≤ i → series f step start (n - i) ≡ []
+  unfolding series
+  series-done start n i h = let e : n - i ≡ 0 = omega arith in ap (λ k. series f step start k) e
+
+-- two functions that agree at each place give the same list
+pub series-same : {A : Type 0} (f g : ℕ → A) (step start other n : ℕ)
+    → ((i : ℕ) → i < n → f (start + step * i) ≡ g (other + step * i)) → series f step start n ≡ series g step other n
+unfolding series
+series-same f g step start other zero h = refl
+series-same f g step start other (suc n) h =
+    (let a : start + step * 0 ≡ start = omega arith in
+    let b : other + step * 0 ≡ other = omega arith in
+    let first : f start ≡ g other = ap f (sym a) ∙ h 0 (omega arith) ∙ ap g b in
+    ap (λ x. x ∷ series f step (start + step) n) first ∙ ap (λ l. g other ∷ l)
+    (series-same f g step (start + step) (other + step) n (λ i k.
+    (let s : start + step + step * i ≡ start + step * suc i = omega arith in
+    let t : other + step + step * i ≡ other + step * suc i = omega arith in
+    ap f s ∙ h (suc i) (omega arith) ∙ ap g (sym t)))))
+
+-- a list is its own values, read one after another
+pub series-take : (l : List ℕ) (start n : ℕ) → start + n ≤ length l → series (λ i. getD l i 0) 1 start n ≡ take n (drop start l)
+unfolding series
+series-take l start zero h = refl
+series-take l start (suc n) h =
+    rw (drop-cons l start 0 (omega arith), ← (add-one start))
+    (ap (λ t. getD l start 0 ∷ t) (series-take l (start + 1) n (omega arith)))
+
+pub map-series : {A B : Type 0} (g : A → B) (f : ℕ → A) (step start n : ℕ) → map g (series f step start n) ≡ series (λ i. g (f i)) step start n
+unfolding series
+map-series g f step start zero = refl
+map-series g f step start (suc n) = ap (λ l. g (f start) ∷ l) (map-series g f step (start + step) n)
+
+-- values that all pass the test of 0 are a stretch of zeros
+pub series-zeros : (f : ℕ → ℕ) (step start n : ℕ) → every (λ w. eqb w 0) (series f step start n) ≡ true → series f step start n ≡ replicate n 0
+unfolding series every
+series-zeros f step start zero h = refl
+series-zeros f step start (suc n) h =
+    let p = and-eq-true-iff (eqb (f start) 0) (every (λ w. eqb w 0) (series f step (start + step) n)) .0 h in
+    rw (eqb-true (f start) 0 (p .0)) (ap (λ l. 0 ∷ l) (series-zeros f step (start + step) n (p .1)))
+
+pub map-append : {A B : Type 0} (f : A → B) (a b : List A) → map f (a ++ b) ≡ map f a ++ map f b
+map-append f [] b = refl
+map-append f (x ∷ a) b = ap (λ l. f x ∷ l) (map-append f a b)
+
+pub flatten-append : {A : Type 0} (a b : List (List A)) → flatten (a ++ b) ≡ flatten a ++ flatten b
+unfolding flatten
+flatten-append [] b = refl
+flatten-append (x ∷ a) b = ap (λ l. x ++ l) (flatten-append a b) ∙ sym (append-assoc x (flatten a) (flatten b))
+
+-- entries of `size` words each, read one after another and written again, are the words that were read
+pub chunks-words : {A : Type 0} (entry : ℕ → A) (words : A → List ℕ) (f : ℕ → ℕ) (size : ℕ)
+    → ((i : ℕ) → words (entry i) ≡ series f 1 i size)
+    → (start n : ℕ) → flatten (map words (series entry size start n)) ≡ series f 1 start (size * n)
+unfolding series flatten
+chunks-words entry words f size h start zero = (let e : size * 0 ≡ 0 = omega arith in sym (ap (λ k. series f 1 start k) e))
+chunks-words entry words f size h start (suc n) =
+    (let e : size + size * n ≡ size * suc n = omega arith in
+    let k : start + 1 * size ≡ start + size = omega arith in
+    rw (h start, chunks-words entry words f size h (start + size) n)
+    (sym (sym (ap (λ m. series f 1 start m) e) ∙ series-append f 1 start size (size * n) ∙
+    ap (λ m. series f 1 start size ++ series f 1 m (size * n)) k)))
+
+-- entries written one after another are read again where each is read from its own words
+pub chunks-read : {A : Type 0} (entry : ℕ → A) (words : A → List ℕ) (size : ℕ) (ws : List ℕ)
+    → ((a : A) → length (words a) ≡ size)
+    → ((a : A) (r : List ℕ) (i : ℕ) → drop i ws ≡ words a ++ r → entry i ≡ a)
+    → (l : List A) (r : List ℕ) (start : ℕ) → drop start ws ≡ flatten (map words l) ++ r
+    → series entry size start (length l) ≡ l
+unfolding series flatten
+chunks-read entry words size ws sized h [] r start e = refl
+chunks-read entry words size ws sized h (a ∷ l) r start e =
+    (let e′ : drop start ws ≡ words a ++ (flatten (map words l) ++ r) = e ∙ append-assoc (words a) (flatten (map words l)) r in
+    let d : drop (start + size) ws ≡ flatten (map words l) ++ r =
+    sym (drop-drop size start ws) ∙ ap (drop size) e′ ∙ drop-at (words a) (flatten (map words l) ++ r) size (sized a) in
+    rw (h a (flatten (map words l) ++ r) start e′)
+    (ap (λ t. a ∷ t) (chunks-read entry words size ws sized h l r (start + size) d)))
+
+pub length-chunks : {A : Type 0} (words : A → List ℕ) (size : ℕ) → ((a : A) → length (words a) ≡ size)
+    → (l : List A) → length (flatten (map words l)) ≡ size * length l
+unfolding flatten
+length-chunks words size sized [] = omega arith
+length-chunks words size sized (a ∷ l) =
+    rw (length-append (words a) (flatten (map words l)), sized a, length-chunks words size sized l) (omega arith)
+
+pub append-same : {A : Type 0} {a b c d : List A} → a ≡ b → c ≡ d → a ++ c ≡ b ++ d
+append-same {a} {d} p q = ap (λ l. a ++ l) q ∙ ap (λ l. l ++ d) p
+
+-- a list that stands at a place is read there
+pub series-read : (ws l r : List ℕ) (start : ℕ) → drop start ws ≡ l ++ r → series (λ i. getD ws i 0) 1 start (length l) ≡ l
+unfolding series
+series-read ws [] r start e = refl
+series-read ws (x ∷ l) r start e =
+    (let a : getD ws start 0 ≡ x = word-read ws x (l ++ r) start e in
+    let d : drop (start + 1) ws ≡ l ++ r = sym (drop-drop 1 start ws) ∙ ap (drop 1) e in
+    rw a (ap (λ t. x ∷ t) (series-read ws l r (start + 1) d)))
+  where
+    word-read : (ws : List ℕ) (x : ℕ) (t : List ℕ) (start : ℕ) → drop start ws ≡ x ∷ t → getD ws start 0 ≡ x
+    word-read ws x t start e =
+        (let z : start + 0 ≡ start = omega arith in sym (ap (λ i. getD ws i 0) z) ∙ sym (getD-drop start ws 0 0) ∙ ap (λ l. getD l 0 0) e)
+
+-- a list is its own elements by their places
+pub series-self : {A : Type 0} (l : List A) (d : A) → series (λ i. getD l i d) 1 0 (length l) ≡ l
+series-self {A} l d =
+    (let f : ℕ → A = λ i. getD l i d in
+    let n = length-series f 1 0 (length l) in
+    ext-getD d (series f 1 0 (length l)) l n (λ i h.
+    (let e : 0 + 1 * i ≡ i = omega arith in getD-series f 1 0 (length l) i d (rw n at h) ∙ ap f e)))
+
+pub every-zeros : (n : ℕ) → every (λ w. eqb w 0) (replicate n 0) ≡ true
+unfolding every
+every-zeros zero = refl
+every-zeros (suc n) = every-zeros n
+
+-- the sum of what f gives at 0 to n - 1
+unfoldable pub sumBelow : (ℕ → ℕ) → ℕ → ℕ
+sumBelow f zero = 0
+sumBelow f (suc n) = sumBelow f n + f n
+
+pub sumBelow-same : (f g : ℕ → ℕ) (n : ℕ) → ((k : ℕ) → k < n → f k ≡ g k) → sumBelow f n ≡ sumBelow g n
+unfolding sumBelow
+sumBelow-same f g zero h = refl
+sumBelow-same f g (suc n) h = rw (sumBelow-same f g n (λ k l. h k (omega arith)), h n (omega arith))
+
+-- the first value first
+pub sumBelow-shift : (f : ℕ → ℕ) (n : ℕ) → f 0 + sumBelow (λ k. f (suc k)) n ≡ sumBelow f n + f n
+unfolding sumBelow
+sumBelow-shift f zero = omega arith
+sumBelow-shift f (suc n) = omega (arith, sumBelow-shift f n)
+
+-- zeros from m on add nothing
+pub sumBelow-zeros : (f : ℕ → ℕ) (m n : ℕ) → ((k : ℕ) → m ≤ k → k < m + n → f k ≡ 0) → sumBelow f (m + n) ≡ sumBelow f m
+unfolding sumBelow
+sumBelow-zeros f m zero h = let e : m + 0 ≡ m = omega arith in ap (sumBelow f) e
+sumBelow-zeros f m (suc n) h =
+    (let e : m + suc n ≡ suc (m + n) = omega arith in
+    let z : f (m + n) ≡ 0 = h (m + n) (omega arith) (omega arith) in
+    let r : sumBelow f (m + n) ≡ sumBelow f m = sumBelow-zeros f m n (λ k a b. h k a (omega arith)) in
+    let s : sumBelow f (m + n) + f (m + n) ≡ sumBelow f m = omega arith in
+    ap (sumBelow f) e ∙ s)
+
+-- a sum over a whole circle of places starts anywhere
+pub sumBelow-turned : (f : ℕ → ℕ) (size turns : ℕ) → 0 < size → sumBelow (λ k. f ((turns + k) % size)) size ≡ sumBelow f size
+sumBelow-turned f size zero h =
+    sumBelow-same (λ k. f ((0 + k) % size)) f size (λ k l.
+    (let e : 0 + k ≡ k = omega arith in ap (λ n. f (n % size)) e ∙ ap f (mod-eq-of-lt l)))
+sumBelow-turned f size (suc turns) h =
+    (let g : ℕ → ℕ = λ k. f ((turns + k) % size) in
+    let a : sumBelow (λ k. f ((suc turns + k) % size)) size ≡ sumBelow (λ k. g (suc k)) size =
+    sumBelow-same (λ k. f ((suc turns + k) % size)) (λ k. g (suc k)) size (λ k l.
+    (let e : suc turns + k ≡ turns + suc k = omega arith in ap (λ n. f (n % size)) e)) in
+    let z : turns + 0 ≡ turns = omega arith in
+    let b : g size ≡ g 0 = ap f (add-mod-right turns size ∙ ap (λ n. n % size) (sym z)) in
+    let s : sumBelow (λ k. g (suc k)) size ≡ sumBelow g size = omega (arith, sumBelow-shift g size, b) in
+    a ∙ s ∙ sumBelow-turned f size turns h)
+
+flatten-one : {A : Type 0} (l : List A) → flatten (l ∷ []) ≡ l
+unfolding flatten
+flatten-one l = append-nil l
+
+flatten-none : {A : Type 0} (f : ℕ → List A) → length (flatten (series f 1 0 0)) ≡ 0
+unfolding flatten series
+flatten-none f = refl
+
+pub length-flatten : {A : Type 0} (f : ℕ → List A) (n : ℕ) → length (flatten (series f 1 0 n)) ≡ sumBelow (λ i. length (f i)) n
+unfolding sumBelow
+length-flatten f zero = flatten-none f
+length-flatten f (suc n) =
+    (let e : 0 + 1 * n ≡ n = omega arith in
+    rw (
+      series-last f 1 0 n,
+      e,
+      flatten-append (series f 1 0 n) (f n ∷ []),
+      flatten-one (f n),
+      length-append (flatten (series f 1 0 n)) (f n),
+      length-flatten f n,
+    ))

@@ -1,0 +1,333 @@
+-- Contents that are put are read again: `contents-put`; and the words are then well formed.
+use Prim.Native.Nat.{ℕ, zero, suc, _+_, _*_, _-_, _/_, _%_, _≤_, _<_}
+use mathlib.Core.Path.{_≡_, refl, sym, ap, _∙_}
+use mathlib.Core.Bool.{Bool, true, false, cond, _&&_, and-eq-true-iff}
+use mathlib.Core.List.{List, [], _∷_, _++_, map, flatten, append-assoc, append-nil}
+use native.Mathlib.Omega.{arith}
+use native.Mathlib.Decide.{decLe}
+use lib.ListN.{length, getD, take, drop, replicate, length-append, length-replicate, length-drop, List·getD-eq-default, List·getD-append, List·getD-map, length-map}
+use lib.Seq.{take-suc, split-at, drop-at, drop-drop, drop-append-add, getD-drop, length-take-le, take-append-seam}
+use lib.Dec.{leb, eqb}
+use borrow.Author.Tests.{leb-true, le-leb, eqb-true, eq-eqb, ne-eqb}
+use Rattle.laws.specs.Series.{series, length-series, getD-series, series-same, series-read, series-self, map-append, flatten-append, chunks-read, length-chunks, every-zeros, append-same}
+use Rattle.laws.specs.Tests.{every, bool-cases, within-facts}
+use Rattle.meaning.specs.Numbers.{largestFactor, classCount}
+use Rattle.meaning.specs.Box.{Box, Packet, Standing, Link, free, carries, linkKept, sound}
+use Rattle.meaning.proofs.Facts.{SoundFacts, sound-facts, settings-facts}
+use Rattle.words.specs.Places.{boxWords, word, startOf, lengthsBelow, placeOf, tagOf}
+use Rattle.words.specs.Contents.{contents, settingsAt, standingAt, standings, packetAt, linkOf, turnsAt, queueAt, queuesAt, padded, standingWords, packetWords, linkWords, turnsOf, byPlace, image, put}
+use Rattle.words.specs.Sound.{zeros, unusedClear, linkClear, emptyFrom, untaggedEmpty, wellFormed}
+use Rattle.words.proofs.Rotation.{place-below, tag-below, tag-of-place, place-of-tag}
+
+-- what contents must keep to be read again from their words
+pub record Puttable (box : Box) : Type 0 where
+  pub classes : length (box .settings .factors) ≤ 8
+  pub rows : length (box .standing) ≤ 32
+  pub link : linkKept (box .link) ≡ true
+  pub largest : largestFactor (box .settings) ≤ 63
+  pub tags : length (box .queues) ≡ suc (largestFactor (box .settings))
+
+pub sound-puttable : (box : Box) → sound box ≡ true → Puttable box
+unfolding classCount
+sound-puttable box e =
+    (let f = sound-facts box e in
+    let s = settings-facts (box .settings) (f .settings-allowed) in
+    record { classes = s .classes-most; rows = f .connections-most; link = f .link-kept; largest = s .factor-most; tags = f .queue-count })
+
+-- the words after a part
+after-part : (ws a b : List ℕ) (i n : ℕ) → drop i ws ≡ a ++ b → length a ≡ n → drop (i + n) ws ≡ b
+after-part ws a b i n e l = sym (drop-drop n i ws) ∙ ap (drop n) e ∙ drop-at a b n l
+
+word-at : (ws : List ℕ) (x : ℕ) (t : List ℕ) (i j : ℕ) → drop i ws ≡ t → getD t j 0 ≡ x → word ws (i + j) ≡ x
+word-at ws x t i j e q = sym (getD-drop i ws j 0) ∙ ap (λ l. getD l j 0) e ∙ q
+
+standing-read : (ws : List ℕ) (s : Standing) (r : List ℕ) (i : ℕ) → drop i ws ≡ standingWords s ++ r → standingAt ws i ≡ s
+unfolding standingWords standingAt
+standing-read ws s r i e =
+    (let z : i + 0 ≡ i = omega arith in
+    let a = sym (ap (λ j. word ws j) z) ∙ word-at ws (s .asked .class) (standingWords s ++ r) i 0 e refl in
+    let b = word-at ws (s .asked .longest) (standingWords s ++ r) i 1 e refl in
+    let c = word-at ws (s .asked .burst) (standingWords s ++ r) i 2 e refl in
+    let d = word-at ws (s .asked .period) (standingWords s ++ r) i 3 e refl in
+    let f = word-at ws (s .allowance .next) (standingWords s ++ r) i 4 e refl in
+    let g = word-at ws (s .allowance .credit) (standingWords s ++ r) i 5 e refl in
+    rw (a, b, c, d, f, g))
+
+packet-read : (ws : List ℕ) (p : Packet) (r : List ℕ) (i : ℕ) → drop i ws ≡ packetWords p ++ r → packetAt ws i ≡ p
+unfolding packetWords packetAt
+packet-read ws p r i e =
+    (let z : i + 0 ≡ i = omega arith in
+    let a = sym (ap (λ j. word ws j) z) ∙ word-at ws (p .serial) (packetWords p ++ r) i 0 e refl in
+    let b = word-at ws (p .connection) (packetWords p ++ r) i 1 e refl in
+    let c = word-at ws (p .units) (packetWords p ++ r) i 2 e refl in
+    let d = word-at ws (p .arrival) (packetWords p ++ r) i 3 e refl in
+    rw (a, b, c, d))
+
+pub standing-size : (s : Standing) → length (standingWords s) ≡ 6
+unfolding standingWords
+standing-size s = refl
+
+pub packet-size : (p : Packet) → length (packetWords p) ≡ 4
+unfolding packetWords
+packet-size p = refl
+
+pub length-padded : (n : ℕ) (l : List ℕ) → length l ≤ n → length (padded n l) ≡ n
+unfolding padded
+length-padded n l h = rw (length-append l (replicate (n - length l) 0), length-replicate {A = ℕ} (n - length l) 0) (omega arith)
+
+pub link-size : (l : Link) → length (linkWords l) ≡ 5
+unfolding linkWords packetWords
+link-size free = refl
+link-size (carries p left) = refl
+
+-- the parts of words that contents put
+record Parts (box : Box) (ws : List ℕ) : Type 0 where
+  rest : List ℕ
+  at-0 : ws ≡ (box .settings .interval ∷ box .settings .cycle ∷ length (box .settings .factors) ∷ []) ++ drop 3 ws
+  at-3 : drop 3 ws ≡ padded 8 (box .settings .factors) ++ drop 11 ws
+  at-11 : drop 11 ws ≡ (length (box .standing) ∷ []) ++ drop 12 ws
+  at-12 : drop 12 ws ≡ padded 192 (flatten (map standingWords (box .standing))) ++ drop 204 ws
+  at-204 : drop 204 ws ≡ (box .counter ∷ box .accepted ∷ []) ++ drop 206 ws
+  at-206 : drop 206 ws ≡ linkWords (box .link) ++ drop 211 ws
+  at-211 : drop 211 ws ≡ map length (byPlace box) ++ drop 275 ws
+  at-275 : drop 275 ws ≡ flatten (map packetWords (flatten (byPlace box))) ++ rest
+
+pub length-places : (box : Box) → length (byPlace box) ≡ 64
+unfolding byPlace
+length-places box = length-series (λ p. getD (box .queues) (tagOf (turnsOf box) p) []) 1 0 64
+
+-- one part after another
+split : (ws a b : List ℕ) (i n : ℕ) → drop i ws ≡ a ++ b → length a ≡ n → drop i ws ≡ a ++ drop (i + n) ws
+split ws a b i n e l = e ∙ ap (λ t. a ++ t) (sym (after-part ws a b i n e l))
+
+put-parts : (box : Box) (ws : List ℕ) → Puttable box → Parts box (put box ws)
+unfolding put image
+put-parts box ws k =
+    (let ws′ = put box ws in
+    let R = drop (length (image box)) ws in
+    let s1 = padded 8 (box .settings .factors) in
+    let s2 = length (box .standing) ∷ [] in
+    let s3 = padded 192 (flatten (map standingWords (box .standing))) in
+    let s4 = box .counter ∷ box .accepted ∷ [] in
+    let s5 = linkWords (box .link) in
+    let s6 = map length (byPlace box) in
+    let s7 = flatten (map packetWords (flatten (byPlace box))) in
+    let l1 : length s1 ≡ 8 = length-padded 8 (box .settings .factors) (k .classes) in
+    let l3 : length s3 ≡ 192 =
+    length-padded 192 (flatten (map standingWords (box .standing)))
+    (rw (length-chunks standingWords 6 standing-size (box .standing)) (omega (arith, k .rows))) in
+    let l6 : length s6 ≡ 64 = length-map (byPlace box) length ∙ length-places box in
+    let e3 : drop 3 ws′ ≡ s1 ++ (s2 ++ (s3 ++ (s4 ++ (s5 ++ (s6 ++ (s7 ++ R)))))) = simp append-assoc in
+    let e11 = after-part ws′ s1 (s2 ++ (s3 ++ (s4 ++ (s5 ++ (s6 ++ (s7 ++ R)))))) 3 8 e3 l1 in
+    let e12 = after-part ws′ s2 (s3 ++ (s4 ++ (s5 ++ (s6 ++ (s7 ++ R))))) 11 1 e11 refl in
+    let e204 = after-part ws′ s3 (s4 ++ (s5 ++ (s6 ++ (s7 ++ R)))) 12 192 e12 l3 in
+    let e206 = after-part ws′ s4 (s5 ++ (s6 ++ (s7 ++ R))) 204 2 e204 refl in
+    let e211 = after-part ws′ s5 (s6 ++ (s7 ++ R)) 206 5 e206 (link-size (box .link)) in
+    let e275 = after-part ws′ s6 (s7 ++ R) 211 64 e211 l6 in
+    record {
+      rest = R;
+      at-0 = refl;
+      at-3 = e3 ∙ ap (λ t. s1 ++ t) (sym e11);
+      at-11 = e11 ∙ ap (λ t. s2 ++ t) (sym e12);
+      at-12 = e12 ∙ ap (λ t. s3 ++ t) (sym e204);
+      at-204 = e204 ∙ ap (λ t. s4 ++ t) (sym e206);
+      at-206 = e206 ∙ ap (λ t. s5 ++ t) (sym e211);
+      at-211 = e211 ∙ ap (λ t. s6 ++ t) (sym e275);
+      at-275 = e275;
+    })
+
+pub length-queue : (ws : List ℕ) (p : ℕ) → length (queueAt ws p) ≡ word ws (211 + p)
+unfolding queueAt
+length-queue ws p = length-series (packetAt ws) 4 (startOf ws p) (word ws (211 + p))
+
+zeros-series : (start n : ℕ) → series {A = ℕ} (λ _. 0) 1 start n ≡ replicate n 0
+unfolding series
+zeros-series start zero = refl
+zeros-series start (suc n) = ap (λ l. 0 ∷ l) (zeros-series (start + 1) n)
+
+-- the lengths of the queues stand in their places
+length-read : (box : Box) (ws : List ℕ) → Parts box ws → (p : ℕ) → p < 64 → word ws (211 + p) ≡ length (getD (byPlace box) p [])
+length-read box ws k p h =
+    word-at ws (length (getD (byPlace box) p [])) (map length (byPlace box) ++ drop 275 ws) 211 p (k .at-211)
+    (List·getD-append (map length (byPlace box)) (drop 275 ws) 0 p
+    (let l : length (map (length {A = Packet}) (byPlace box)) ≡ 64 = length-map (byPlace box) length ∙ length-places box in omega arith) ∙
+    List·getD-map length (byPlace box) p [])
+
+below-read : (box : Box) (ws : List ℕ) → Parts box ws → (p : ℕ) → p ≤ 64 → lengthsBelow ws p ≡ length (flatten (take p (byPlace box)))
+unfolding lengthsBelow flatten
+below-read box ws k zero h = refl
+below-read box ws k (suc p) h =
+    (let q = getD (byPlace box) p [] in
+    let l : p < length (byPlace box) = omega (arith, length-places box) in
+    rw (
+      take-suc (byPlace box) p [] l,
+      flatten-append (take p (byPlace box)) (q ∷ []),
+      append-nil q,
+      length-append (flatten (take p (byPlace box))) q,
+      length-read box ws k p h,
+      below-read box ws k p (omega arith),
+    ))
+
+-- the words of some queues
+flat : List (List Packet) → List ℕ
+flat qs = flatten (map packetWords (flatten qs))
+
+flat-split : (a : List (List Packet)) (q : List Packet) (r : List (List Packet))
+    → flat (a ++ q ∷ r) ≡ flat a ++ (flatten (map packetWords q) ++ flat r)
+unfolding flatten flat
+flat-split a q r =
+    ap (λ l. flatten (map packetWords l)) (flatten-append a (q ∷ r)) ∙ ap flatten (map-append packetWords (flatten a) (q ++ flatten r)) ∙
+    flatten-append (map packetWords (flatten a)) (map packetWords (q ++ flatten r)) ∙
+    ap (λ l. flatten (map packetWords (flatten a)) ++ l)
+    (ap flatten (map-append packetWords q (flatten r)) ∙ flatten-append (map packetWords q) (map packetWords (flatten r)))
+
+-- the words of a queue stand at its start
+queue-found : (box : Box) (ws : List ℕ) (k : Parts box ws) (p : ℕ) → p < 64
+    → drop (startOf ws p) ws ≡ flatten (map packetWords (getD (byPlace box) p [])) ++ (flat (drop (suc p) (byPlace box)) ++ k .rest)
+unfolding startOf flat
+queue-found box ws k p h =
+    (let places = byPlace box in
+    let a = take p places in
+    let q = getD places p [] in
+    let r = drop (suc p) places in
+    let Q = flatten (map packetWords q) in
+    let l : p < length places = omega (arith, length-places box) in
+    let e : drop 275 ws ≡ flat a ++ (Q ++ (flat r ++ k .rest)) =
+    k .at-275 ∙ ap (λ t. flat t ++ k .rest) (split-at places p [] l) ∙ ap (λ t. t ++ k .rest) (flat-split a q r) ∙
+    append-assoc (flat a) (Q ++ flat r) (k .rest) ∙ ap (λ t. flat a ++ t) (append-assoc Q (flat r) (k .rest)) in
+    after-part ws (flat a) (Q ++ (flat r ++ k .rest)) 275 (4 * lengthsBelow ws p) e
+    (length-chunks packetWords 4 packet-size (flatten a) ∙ ap (λ n. 4 * n) (sym (below-read box ws k p (omega arith)))))
+
+queue-read : (box : Box) (ws : List ℕ) → Parts box ws → (p : ℕ) → p < 64 → queueAt ws p ≡ getD (byPlace box) p []
+unfolding queueAt
+queue-read box ws k p h =
+    rw (length-read box ws k p h)
+    (chunks-read (packetAt ws) packetWords 4 ws packet-size (packet-read ws) (getD (byPlace box) p [])
+    (flat (drop (suc p) (byPlace box)) ++ k .rest) (startOf ws p) (queue-found box ws k p h))
+
+-- the queue tagged k is read at its place
+tag-read : (box : Box) (ws : List ℕ) → Parts box ws → (k : ℕ) → k < 64 → queueAt ws (placeOf (turnsOf box) k) ≡ getD (box .queues) k []
+unfolding byPlace
+tag-read box ws parts k h =
+    (let t = turnsOf box in
+    let p = placeOf t k in
+    let f : ℕ → List Packet = λ p. getD (box .queues) (tagOf t p) [] in
+    let e : 0 + 1 * p ≡ p = omega arith in
+    queue-read box ws parts p (place-below t k) ∙ getD-series f 1 0 64 p [] (place-below t k) ∙ ap f e ∙
+    ap (λ n. getD (box .queues) n []) (tag-of-place t k h))
+
+settings-read : (box : Box) (ws : List ℕ) → Parts box ws → settingsAt ws ≡ box .settings
+unfolding settingsAt padded
+settings-read box ws k =
+    (let fs = box .settings .factors in
+    let d = word-at ws (box .settings .interval) ws 0 0 refl (ap (λ l. getD l 0 0) (k .at-0)) in
+    let m = word-at ws (box .settings .cycle) ws 0 1 refl (ap (λ l. getD l 1 0) (k .at-0)) in
+    let n = word-at ws (length fs) ws 0 2 refl (ap (λ l. getD l 2 0) (k .at-0)) in
+    rw (d, m, n, series-read ws fs (replicate (8 - length fs) 0 ++ drop 11 ws) 3 (k .at-3 ∙ append-assoc fs (replicate (8 - length fs) 0) (drop 11 ws))))
+
+standings-read : (box : Box) (ws : List ℕ) → Parts box ws → standings ws ≡ box .standing
+unfolding standings padded
+standings-read box ws k =
+    (let n = word-at ws (length (box .standing)) ((length (box .standing) ∷ []) ++ drop 12 ws) 11 0 (k .at-11) refl in
+    let words = flatten (map standingWords (box .standing)) in
+    let pad : List ℕ = replicate (192 - length words) 0 in
+    rw n (chunks-read (standingAt ws) standingWords 6 ws standing-size (standing-read ws) (box .standing) (pad ++ drop 204 ws) 12
+    (k .at-12 ∙ append-assoc words pad (drop 204 ws))))
+
+pub link-carries : (left : ℕ) (p : Packet) → 1 ≤ left → linkOf left p ≡ carries p left
+unfolding linkOf
+link-carries zero p h = absurd (omega arith)
+link-carries (suc n) p h = refl
+
+link-read : (l : Link) (ws r : List ℕ) → linkKept l ≡ true → drop 206 ws ≡ linkWords l ++ r → linkOf (word ws 206) (packetAt ws 207) ≡ l
+unfolding linkWords linkOf linkKept
+link-read free ws r k e = rw (word-at ws 0 (linkWords free ++ r) 206 0 e refl)
+link-read (carries p left) ws r k e =
+    (let a : word ws 206 ≡ left = word-at ws left (linkWords (carries p left) ++ r) 206 0 e refl in
+    let b : packetAt ws 207 ≡ p = packet-read ws p r 207 (after-part ws (left ∷ []) (packetWords p ++ r) 206 1 e refl) in
+    let h : 1 ≤ left = within-facts 1 left (p .units - 1) k .0 in
+    let c : linkOf left p ≡ carries p left = link-carries left p h in
+    ap (λ n. linkOf n (packetAt ws 207)) a ∙ ap (linkOf left) b ∙ c)
+
+turns-read : (box : Box) (ws : List ℕ) → Parts box ws → turnsAt ws ≡ turnsOf box
+unfolding turnsAt turnsOf
+turns-read box ws k =
+    (let d = word-at ws (box .settings .interval) ws 0 0 refl (ap (λ l. getD l 0 0) (k .at-0)) in
+    let n = word-at ws (box .counter) ((box .counter ∷ box .accepted ∷ []) ++ drop 206 ws) 204 0 (k .at-204) refl in
+    rw (d, n))
+
+queues-read : (box : Box) (ws : List ℕ) → Puttable box → Parts box ws → queuesAt ws ≡ box .queues
+unfolding queuesAt
+queues-read box ws kept k =
+    (let n = suc (largestFactor (box .settings)) in
+    rw (turns-read box ws k, settings-read box ws k)
+    (series-same (λ t. queueAt ws (placeOf (turnsOf box) t)) (λ i. getD (box .queues) i []) 1 0 0 n
+    (λ i h. tag-read box ws k (0 + 1 * i) (omega (arith, kept .largest))) ∙
+    ap (λ m. series (λ i. getD (box .queues) i []) 1 0 m) (sym (kept .tags)) ∙ series-self (box .queues) []))
+
+-- words with these parts stand for these contents
+parts-contents : (box : Box) (ws : List ℕ) → Puttable box → Parts box ws → contents ws ≡ box
+unfolding contents
+parts-contents box ws kept k =
+    (let n = word-at ws (box .counter) ((box .counter ∷ box .accepted ∷ []) ++ drop 206 ws) 204 0 (k .at-204) refl in
+    let a = word-at ws (box .accepted) ((box .counter ∷ box .accepted ∷ []) ++ drop 206 ws) 204 1 (k .at-204) refl in
+    rw (settings-read box ws k, standings-read box ws k, n, a, link-read (box .link) ws (drop 211 ws) (kept .link) (k .at-206), queues-read box ws kept k))
+
+-- contents that are put are read again
+pub contents-put : (box : Box) (ws : List ℕ) → Puttable box → contents (put box ws) ≡ box
+contents-put box ws k = parts-contents box (put box ws) k (put-parts box ws k)
+
+zeros-read : (ws r : List ℕ) (start n : ℕ) → drop start ws ≡ replicate n 0 ++ r → zeros ws start n ≡ true
+unfolding zeros
+zeros-read ws r start n e =
+    (let z : List ℕ = replicate n 0 in
+    ap (λ m. every (λ w. eqb w 0) (series (λ i. word ws i) 1 start m)) (sym (length-replicate {A = ℕ} n 0)) ∙
+    ap (every (λ w. eqb w 0)) (series-read ws z r start e) ∙ every-zeros n)
+
+unused-put : (box : Box) (ws : List ℕ) → Parts box ws → unusedClear ws ≡ true
+unfolding unusedClear padded
+unused-put box ws k =
+    (let fs = box .settings .factors in
+    let rows = flatten (map standingWords (box .standing)) in
+    let p = word-at ws (length fs) ws 0 2 refl (ap (λ l. getD l 2 0) (k .at-0)) in
+    let n = word-at ws (length (box .standing)) ((length (box .standing) ∷ []) ++ drop 12 ws) 11 0 (k .at-11) refl in
+    let a = k .at-3 ∙ append-assoc fs (replicate (8 - length fs) 0) (drop 11 ws) in
+    let b = k .at-12 ∙ append-assoc rows (replicate (192 - length rows) 0) (drop 204 ws) in
+    let m : length rows ≡ 6 * length (box .standing) = length-chunks standingWords 6 standing-size (box .standing) in
+    rw (p, n, ← m)
+    (and-eq-true-iff (zeros ws (3 + length fs) (8 - length fs)) (zeros ws (12 + length rows) (192 - length rows)) .1 (
+      zeros-read ws (drop 11 ws) (3 + length fs) (8 - length fs)
+          (after-part ws fs (replicate (8 - length fs) 0 ++ drop 11 ws) 3 (length fs) a refl),
+      zeros-read ws (drop 204 ws) (12 + length rows) (192 - length rows)
+          (after-part ws rows (replicate (192 - length rows) 0 ++ drop 204 ws) 12 (length rows) b refl),
+    )))
+
+link-put : (l : Link) (ws r : List ℕ) → linkKept l ≡ true → drop 206 ws ≡ linkWords l ++ r → linkClear ws ≡ true
+unfolding linkWords linkClear linkKept
+link-put free ws r k e =
+    rw (word-at ws 0 (linkWords free ++ r) 206 0 e refl) (zeros-read ws r 207 4 (after-part ws (0 ∷ []) (0 ∷ 0 ∷ 0 ∷ 0 ∷ r) 206 1 e refl))
+link-put (carries p left) ws r k e =
+    (let a : word ws 206 ≡ left = word-at ws left (linkWords (carries p left) ++ r) 206 0 e refl in
+    let h : 1 ≤ left = within-facts 1 left (p .units - 1) k .0 in
+    ap (λ b. cond b (zeros ws 207 4) true) (ne-eqb (word ws 206) 0 (omega arith)))
+
+untagged-put : (box : Box) (ws : List ℕ) → Puttable box → Parts box ws → untaggedEmpty ws ≡ true
+unfolding untaggedEmpty emptyFrom
+untagged-put box ws kept k =
+    (let r = largestFactor (box .settings) in
+    let f : ℕ → ℕ = λ t. word ws (211 + placeOf (turnsOf box) t) in
+    rw (settings-read box ws k, turns-read box ws k)
+    (ap (every (λ w. eqb w 0)) (series-same f (λ _. 0) 1 (suc r) 0 (63 - r) (λ i h.
+    (let t = suc r + 1 * i in
+    sym (length-queue ws (placeOf (turnsOf box) t)) ∙ ap length (tag-read box ws k t (omega (arith, kept .largest))) ∙
+    ap length (List·getD-eq-default (box .queues) [] {n = t} (omega (arith, kept .tags)))))) ∙
+    ap (every (λ w. eqb w 0)) (zeros-series 0 (63 - r)) ∙ every-zeros (63 - r)))
+
+pub put-unused : (box : Box) (ws : List ℕ) → Puttable box → unusedClear (put box ws) ≡ true
+put-unused box ws k = unused-put box (put box ws) (put-parts box ws k)
+
+pub put-link : (box : Box) (ws : List ℕ) → Puttable box → linkClear (put box ws) ≡ true
+put-link box ws k = link-put (box .link) (put box ws) (drop 211 (put box ws)) (k .link) (put-parts box ws k .at-206)
+
+pub put-untagged : (box : Box) (ws : List ℕ) → Puttable box → untaggedEmpty (put box ws) ≡ true
+put-untagged box ws k = untagged-put box (put box ws) k (put-parts box ws k)

@@ -1,0 +1,5 @@
+-- The laws of the layout.
+pub mod Rotation
+pub mod PutContents
+pub mod ContentsPut
+pub mod Counts

@@ -1,0 +1,107 @@
+-- What words stand for, and how contents are put into words.
+use Prim.Native.Nat.{ℕ, zero, suc, _+_, _-_, _*_, _/_}
+use mathlib.Core.List.{List, [], _∷_, _++_, map, flatten}
+use lib.ListN.{length, getD, drop, replicate}
+use Rattle.laws.specs.Series.{series}
+use Rattle.meaning.specs.Numbers.{Settings, Connection, largestFactor}
+use Rattle.meaning.specs.Envelope.{Allowance}
+use Rattle.meaning.specs.Box.{Box, Packet, Standing, Link, free, carries}
+use Rattle.words.specs.Places.{word, startOf, placeOf, tagOf}
+
+-- The settings: D, M and as many factors as word 2 says.
+unfoldable pub settingsAt : List ℕ → Settings
+settingsAt ws = record { interval = word ws 0; cycle = word ws 1; factors = series (λ i. word ws i) 1 3 (word ws 2) }
+
+-- The connection's row that starts at this word.
+unfoldable pub standingAt : List ℕ → ℕ → Standing
+standingAt ws at =
+    record {
+      asked = record { class = word ws at; longest = word ws (at + 1); burst = word ws (at + 2); period = word ws (at + 3) };
+      allowance = record { next = word ws (at + 4); credit = word ws (at + 5) };
+    }
+
+-- The rows of the connections that stand.
+unfoldable pub standings : List ℕ → List Standing
+standings ws = series (standingAt ws) 6 12 (word ws 11)
+
+-- The packet that starts at this word.
+unfoldable pub packetAt : List ℕ → ℕ → Packet
+packetAt ws at =
+    record { serial = word ws at; connection = word ws (at + 1); units = word ws (at + 2); arrival = word ws (at + 3) }
+
+-- The link with so many units left of this packet; 0 left is a free link.
+unfoldable pub linkOf : ℕ → Packet → Link
+linkOf zero p = free
+linkOf (suc n) p = carries p (suc n)
+
+-- floor(now/D): how often the queues have turned.
+unfoldable pub turnsAt : List ℕ → ℕ
+turnsAt ws = word ws 204 / word ws 0
+
+-- The queue at place p, its head first.
+unfoldable pub queueAt : List ℕ → ℕ → List Packet
+queueAt ws p = series (packetAt ws) 4 (startOf ws p) (word ws (211 + p))
+
+-- The queues by their tags, 0 to rP.
+unfoldable pub queuesAt : List ℕ → List (List Packet)
+queuesAt ws = series (λ k. queueAt ws (placeOf (turnsAt ws) k)) 1 0 (suc (largestFactor (settingsAt ws)))
+
+-- The contents that words stand for.
+unfoldable pub contents : List ℕ → Box
+contents ws =
+    record {
+      settings = settingsAt ws;
+      standing = standings ws;
+      counter = word ws 204;
+      accepted = word ws 205;
+      link = linkOf (word ws 206) (packetAt ws 207);
+      queues = queuesAt ws;
+    }
+
+-- A list of words with zeros after it, n words in all.
+unfoldable pub padded : ℕ → List ℕ → List ℕ
+padded n l = l ++ replicate (n - length l) 0
+
+-- The words of a connection's row.
+unfoldable pub standingWords : Standing → List ℕ
+standingWords s =
+    s .asked .class ∷
+    s .asked .longest ∷
+    s .asked .burst ∷
+    s .asked .period ∷
+    s .allowance .next ∷
+    s .allowance .credit ∷
+    []
+
+-- The words of a packet.
+unfoldable pub packetWords : Packet → List ℕ
+packetWords p = p .serial ∷ p .connection ∷ p .units ∷ p .arrival ∷ []
+
+-- The words of the link: units left, then the packet; all 0 where it is free.
+unfoldable pub linkWords : Link → List ℕ
+linkWords free = 0 ∷ 0 ∷ 0 ∷ 0 ∷ 0 ∷ []
+linkWords (carries p left) = left ∷ packetWords p
+
+-- floor(now/D) of contents.
+unfoldable pub turnsOf : Box → ℕ
+turnsOf box = box .counter / box .settings .interval
+
+-- The queues by their 64 places; a place of no tag has an empty queue.
+unfoldable pub byPlace : Box → List (List Packet)
+byPlace box = series (λ p. getD (box .queues) (tagOf (turnsOf box) p) []) 1 0 64
+
+-- The words of contents: the tables, then the waiting packets queue after queue.
+unfoldable pub image : Box → List ℕ
+image box =
+    (box .settings .interval ∷ box .settings .cycle ∷ length (box .settings .factors) ∷ []) ++
+    (padded 8 (box .settings .factors) ++
+    ((length (box .standing) ∷ []) ++
+    (padded 192 (flatten (map standingWords (box .standing))) ++
+    ((box .counter ∷ box .accepted ∷ []) ++
+    (linkWords (box .link) ++
+    (map length (byPlace box) ++
+    flatten (map packetWords (flatten (byPlace box)))))))))
+
+-- Contents put into words: the words past the last packet stay.
+unfoldable pub put : Box → List ℕ → List ℕ
+put box ws = image box ++ drop (length (image box)) ws
