@@ -10,8 +10,8 @@ use lib.Dec.{leb, ltb, eqb}
 use borrow.Author.Tests.{leb-true, leb-false, le-leb}
 use native.Mathlib.Omega.{arith}
 use Rattle.laws.specs.Tests.{bool-cases}
-use Rattle.laws.specs.Sums.{sumOf}
-use Rattle.laws.specs.SumLaws.{given, given-true, given-false, sum-append, sum-one, sum-member}
+use Rattle.laws.specs.Sums.{sumOf, sum-append}
+use Rattle.laws.specs.SumLaws.{given, given-true, given-false, sum-one, sum-member}
 use Rattle.laws.specs.Putting.{Put, Same}
 use Rattle.meaning.specs.Box.{Packet, Link, free, carries}
 use Rattle.meaning.specs.Step.{linkSent}

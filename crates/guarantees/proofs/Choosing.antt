@@ -10,8 +10,8 @@ use lib.ListN.{length}
 use borrow.Author.Tests.{ltb-true, eqb-true}
 use native.Mathlib.Omega.{arith}
 use Rattle.laws.specs.Tests.{every, every-at}
-use Rattle.laws.specs.Sums.{sumOf}
-use Rattle.laws.specs.SumLaws.{sum-append, sum-one}
+use Rattle.laws.specs.Sums.{sumOf, sum-append}
+use Rattle.laws.specs.SumLaws.{sum-one}
 use Rattle.laws.specs.Putting.{Put, Same, same-refl, sum-flatten-last}
 use Rattle.meaning.specs.Numbers.{risingAbove}
 use Rattle.meaning.specs.Queues.{joinTail, turned, lowestHead, withoutLowestHead}

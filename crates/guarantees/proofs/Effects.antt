@@ -11,7 +11,7 @@ use lib.ListN.{length, getD, length-map}
 use native.Mathlib.Omega.{arith}
 use Rattle.laws.specs.Tests.{within, within-facts}
 use Rattle.laws.specs.Putting.{Put, Same, same-refl}
-use Rattle.laws.specs.Places.{member-at}
+use Rattle.laws.specs.Lists.{getD-member}
 use Rattle.meaning.specs.declared.Offered.{Offered}
 use Rattle.meaning.specs.Numbers.{Connection, factor, largestFactor}
 use Rattle.meaning.specs.Box.{Box, Standing, Packet, Link, free, carries, connections, connection, noConnection, stands, waiting, sound}
@@ -20,7 +20,7 @@ use Rattle.meaning.specs.Calls.{afterOffer, joined}
 use Rattle.meaning.specs.Step.{loaded, linkTaken, queuesTaken, linkSent, turnDue, queuesStepped, moved}
 use Rattle.meaning.proofs.Facts.{SettingsFacts, settings-facts, ConnectionFacts, SoundFacts, sound-facts}
 use Rattle.meaning.proofs.QueueLaws.{lowest-member, without-member, nothing-waits, nothing-taken}
-use Rattle.guarantees.proofs.Classes.{factor-most}
+use Rattle.meaning.proofs.KeptByOffer.{factor-within}
 use Rattle.guarantees.proofs.Admitting.{standing-facts}
 use Rattle.guarantees.proofs.Choosing.{join-put, head-put, turned-same, Before, chosen-goes-first}
 use Rattle.guarantees.proofs.Sending.{sent-is}
@@ -30,7 +30,7 @@ use Rattle.guarantees.proofs.Moves.{newPacket}
 pub connection-member : (box : Box) (n : ℕ) → 1 ≤ n → n ≤ length (box .standing) → List·Memᴰ (connection box n) (connections box)
 unfolding connection connections
 connection-member box n h l =
-    member-at (map (λ (s : Standing). s .asked) (box .standing)) (n - 1) noConnection (rw length-map (omega arith))
+    getD-member (map (λ (s : Standing). s .asked) (box .standing)) (n - 1) noConnection (rw length-map (omega arith))
 
 -- It keeps the table of numbers.
 pub connection-kept : (box : Box) → sound box ≡ true → (n : ℕ) → 1 ≤ n → n ≤ length (box .standing) → ConnectionFacts (box .settings) (connection box n)
@@ -44,7 +44,7 @@ accepted-put box s n units e =
     let w = within-facts 1 n (length (box .standing)) e in
     let f = sound-facts box s in
     let c = connection-kept box s n (w .0) (w .1) in
-    let m = factor-most (box .settings) (settings-facts (box .settings) (f .settings-allowed)) (connection box n .class) (c .class-least) (c .class-most) in
+    let m = factor-within (box .settings) (connection box n .class) (settings-facts (box .settings) (f .settings-allowed)) (c .class-least) (c .class-most) in
     let q = f .queue-count in
     join-put (factor (box .settings) (connection box n .class)) (newPacket box n units) (box .queues) (omega arith)
 

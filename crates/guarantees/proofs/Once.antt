@@ -9,8 +9,8 @@ use borrow.Author.Tests.{leb-true, leb-false, eq-eqb, ne-eqb}
 use native.Mathlib.Decide.{ℕ-discrete, decLe}
 use native.Mathlib.Omega.{arith}
 use Rattle.laws.specs.Tests.{within, within-facts, within-test, bool-cases}
-use Rattle.laws.specs.Sums.{sumOf}
-use Rattle.laws.specs.SumLaws.{given, given-true, given-false, sum-append, sum-one}
+use Rattle.laws.specs.Sums.{sumOf, sum-append}
+use Rattle.laws.specs.SumLaws.{given, given-true, given-false, sum-one}
 use Rattle.laws.specs.Putting.{Put, Same}
 use Rattle.meaning.specs.declared.Offered.{Offered}
 use Rattle.meaning.specs.Numbers.{Settings}

@@ -9,8 +9,8 @@ use borrow.Author.Tests.{leb-true, eqb-true, eq-eqb, ne-eqb}
 use native.Mathlib.Nat.{mul-le-mul-left, mul-add}
 use native.Mathlib.Omega.{arith}
 use Rattle.laws.specs.Tests.{within, within-facts, within-test, bool-cases, everyBelow, everyBelow-at}
-use Rattle.laws.specs.Sums.{sumOf}
-use Rattle.laws.specs.SumLaws.{given, sum-append, sum-one}
+use Rattle.laws.specs.Sums.{sumOf, sum-append}
+use Rattle.laws.specs.SumLaws.{given, sum-one}
 use Rattle.laws.specs.Division.{div-mono}
 use Rattle.meaning.specs.Numbers.{Connection}
 use Rattle.meaning.specs.Envelope.{mayHave, countIn, fits}

@@ -13,8 +13,8 @@ use native.Mathlib.Decide.{decLt, decLe}
 use native.Mathlib.Omega.{arith}
 use Rattle.laws.specs.Tests.{every, every-at, bool-cases}
 use Rattle.laws.specs.Search.{Search, failsAt, holds, firstFailing}
-use Rattle.laws.specs.Sums.{sumOf, largestOf}
-use Rattle.laws.specs.SumLaws.{sum-same, sum-add, sum-put, largest-put}
+use Rattle.laws.specs.Sums.{sumOf, largestOf, sum-add}
+use Rattle.laws.specs.SumLaws.{sum-same, sum-put, largest-put}
 use Rattle.laws.specs.Finding.{Least, first-failing-fails, first-failing-holds}
 use Rattle.laws.specs.Division.{div-mono, div-add-multiple}
 use Rattle.laws.specs.Gaining.{all-follow, some-passes}
@@ -108,7 +108,7 @@ module _ (set : Settings) (sf : SettingsFacts set) (cs : List Connection)
       sum-same (term set (t + set .cycle)) (λ c. term set t c + gain set c) cs
       (λ c m. let f = facts c m in let b = bound-most set sf (c .class) (f .class-least) (f .class-most) in
       term-repeats set c (c .longest) (gain set c) t (laws c m) (omega arith)) ∙
-      sum-add (term set t) (gain set) cs
+      sum-add (term set t) (gain set) (λ c. term set t c + gain set c) cs (λ c. refl)
 
   -- "all t follow from t = 0 to dP + M - 1, because each envelope repeats with M."
   pub all-slots-follow : rateHolds set cs ≡ true →

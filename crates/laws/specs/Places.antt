@@ -1,4 +1,4 @@
--- Places of a list: the element at a place, the last one, and setting one.
+-- Places of a list: the last one, and setting one.
 use Prim.Native.Nat.{ℕ, zero, suc, _<_}
 use mathlib.Core.Path.{_≡_, refl, sym, _∙_, ap}
 use mathlib.Core.Bool.{cond}
@@ -8,12 +8,6 @@ use native.Mathlib.Omega.{arith}
 use lib.Dec.{eqb}
 use lib.ListN.{length, getD, set}
 use borrow.Author.Tests.{eq-eqb, ne-eqb}
-
--- the element at a place is a member
-pub member-at : {A : Type 0} (l : List A) (i : ℕ) (d : A) → i < length l → List·Memᴰ (getD l i d) l
-member-at [] i d h = absurd (omega arith)
-member-at (a ∷ l) zero d h = List·Memᴰ·head refl
-member-at (a ∷ l) (suc i) d h = List·Memᴰ·tail (member-at l i d (omega arith))
 
 -- the element that was put at the end
 pub last-at : {A : Type 0} (l : List A) (a d : A) → getD (l ++ (a ∷ [])) (length l) d ≡ a

@@ -4,8 +4,8 @@ use mathlib.Core.Path.{_≡_, refl, sym, _∙_, ap}
 use mathlib.Core.List.{List, [], _∷_, _++_, flatten, List·Memᴰ, List·Memᴰ·head, List·Memᴰ·tail, List·Memᴰ·cases-cons, List·Memᴰ·append-cases, Memᴰ·append-left, Memᴰ·append-right}
 use mathlib.Core.Logic.{_⊎_, inl, inr, ⊎-elim}
 use native.Mathlib.Omega.{arith}
-use Rattle.laws.specs.Sums.{sumOf}
-use Rattle.laws.specs.SumLaws.{sum-append, sum-one}
+use Rattle.laws.specs.Sums.{sumOf, sum-append}
+use Rattle.laws.specs.SumLaws.{sum-one}
 
 -- m is l with a put in somewhere
 pub record Put {A : Type 0} (a : A) (l m : List A) : Type 0 where

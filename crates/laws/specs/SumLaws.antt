@@ -42,16 +42,6 @@ module _ {A : Type 0} where
       let y = sum-mono f g l (λ b m. h b (List·Memᴰ·tail m)) in
       omega arith
 
-  pub sum-add : (f g : A → ℕ) (l : List A) → sumOf (λ a. f a + g a) l ≡ sumOf f l + sumOf g l
-  unfolding sumOf
-  sum-add f g [] = refl
-  sum-add f g (a ∷ l) = let y = sum-add f g l in omega arith
-
-  pub sum-append : (f : A → ℕ) (l m : List A) → sumOf f (l ++ m) ≡ sumOf f l + sumOf f m
-  unfolding sumOf
-  sum-append f [] m = omega arith
-  sum-append f (a ∷ l) m = let y = sum-append f l m in omega arith
-
   pub sum-one : (f : A → ℕ) (a : A) → sumOf f (a ∷ []) ≡ f a
   unfolding sumOf
   sum-one f a = omega arith
