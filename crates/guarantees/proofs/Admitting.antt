@@ -1,22 +1,20 @@
 -- Document 01, "Admission", of a box: a connection is taken exactly when (11) and (12) hold at every t without end.
-use Prim.Native.Nat.{ℕ, zero, suc, _+_, _≤_, _<_}
+use Prim.Native.Nat.{ℕ, suc, _≤_, _<_}
 use mathlib.Core.Path.{_≡_, refl, sym, _∙_, ap}
-use mathlib.Core.Bool.{Bool, true, false, cond, not, true≢false}
-use mathlib.Core.List.{List, [], _∷_, _++_, List·Memᴰ, List·Memᴰ·append-cases, List·Memᴰ·eq-of-singleton}
-use mathlib.Core.Logic.{_⊎_, inl, inr, ⊎-elim, _↔_}
-use lib.Dec.{leb}
+use mathlib.Core.Bool.{true, false, true≢false}
+use mathlib.Core.List.{[], _∷_, List·Memᴰ, List·Memᴰ·append-cases, List·Memᴰ·eq-of-singleton}
+use mathlib.Core.Logic.{⊎-elim, _↔_}
 use lib.ListN.{length}
-use borrow.Author.Tests.{leb-true, leb-false, le-leb, lt-leb}
+use borrow.Author.Tests.{leb-true}
 use native.Mathlib.Omega.{arith}
-use Rattle.laws.specs.Tests.{every, every-at, bool-cases}
-use Rattle.laws.specs.Search.{Search, failsAt, holds}
+use Rattle.laws.specs.Tests.{every-at}
 use Rattle.laws.specs.Finding.{Least, first-failing-fails, first-failing-holds}
 use Rattle.meaning.specs.declared.Admitted.{Admitted}
-use Rattle.meaning.specs.Numbers.{Settings, Connection, connectionAllowed, mostConnections, largestBound}
-use Rattle.meaning.specs.Admission.{conditionAt, HoldsWithoutEnd, rateHolds, finiteSearch}
+use Rattle.meaning.specs.Numbers.{Connection, connectionAllowed, mostConnections}
+use Rattle.meaning.specs.Admission.{conditionAt, HoldsWithoutEnd, finiteSearch}
 use Rattle.meaning.specs.Box.{Box, connections, sound}
-use Rattle.meaning.specs.Calls.{withNewcomer, searchAnswer, admissionAnswer}
-use Rattle.meaning.proofs.Facts.{ConnectionFacts, connection-facts, SettingsFacts, settings-facts, SoundFacts, sound-facts}
+use Rattle.meaning.specs.Calls.{withNewcomer, admissionAnswer}
+use Rattle.meaning.proofs.Facts.{ConnectionFacts, connection-facts, settings-facts, sound-facts}
 use Rattle.guarantees.proofs.Saying.{AdmissionSays, admission-says}
 use Rattle.guarantees.proofs.WithoutEnd.{envelope-laws, all-slots-follow, some-slot-fails}
 

@@ -1,24 +1,23 @@
 -- What the packets up to p bring in from slot u on is at most the sum of the test at T, if their arrivals keep the limits that the
 -- test counts with. Of an envelope only this is used: what a connection was accepted for keeps it, and it is at least s at 0.
-use Prim.Native.Nat.{ℕ, zero, suc, _+_, _*_, _-_, _/_, _≤_, _<_}
-use mathlib.Core.Path.{_≡_, refl, sym, _∙_, ap}
-use mathlib.Core.Bool.{Bool, true, false, cond, not, _&&_, and-eq-true-iff, true≢false}
-use mathlib.Core.List.{List, [], _∷_, _++_, map, List·Memᴰ}
-use mathlib.Core.Logic.{_⊎_, inl, inr, ⊎-elim}
-use lib.Dec.{leb, ltb, eqb}
+use Prim.Native.Nat.{ℕ, _+_, _-_, _≤_, _<_}
+use mathlib.Core.Path.{_≡_, refl, ap}
+use mathlib.Core.Bool.{Bool, true, false, cond, _&&_}
+use mathlib.Core.List.{List, List·Memᴰ}
+use mathlib.Core.Logic.{_⊎_, ⊎-elim}
+use lib.Dec.{leb, eqb}
 use lib.ListN.{length, getD, length-map}
-use borrow.Author.Tests.{leb-true, leb-false, le-leb, lt-leb, eqb-true, eqb-false, eq-eqb, ne-eqb}
+use borrow.Author.Tests.{leb-true, le-leb, lt-leb, eqb-true, eqb-false}
 use native.Mathlib.Decide.{decLe}
 use native.Mathlib.Omega.{arith}
-use Rattle.laws.specs.Tests.{within, within-test, bool-cases}
+use Rattle.laws.specs.Tests.{within, within-test}
 use Rattle.laws.specs.Sums.{sumOf}
-use Rattle.laws.specs.SumLaws.{given, given-true, given-false, given-most, sum-mono, sum-zero}
+use Rattle.laws.specs.SumLaws.{given, given-false, sum-mono, sum-zero}
 use Rattle.laws.specs.Groups.{across, partOf, sum-groups, across-below, across-spare}
-use Rattle.meaning.specs.Numbers.{Settings, Connection, bound}
+use Rattle.meaning.specs.Numbers.{bound}
 use Rattle.meaning.specs.Envelope.{envelope, delayed}
 use Rattle.meaning.specs.Admission.{term, sumAt}
-use Rattle.meaning.specs.Box.{Box, Standing, Packet, connections, connection, noConnection}
-use Rattle.meaning.proofs.Facts.{PacketFacts}
+use Rattle.meaning.specs.Box.{Box, Packet, connections, connection, noConnection}
 use Rattle.guarantees.proofs.Backlog.{arrivedSince}
 use Rattle.guarantees.proofs.Known.{Known}
 

@@ -1,12 +1,11 @@
 -- All that holds after every run, together.
-use Prim.Native.Nat.{ℕ}
-use mathlib.Core.Path.{_≡_, refl}
-use mathlib.Core.Bool.{Bool, true}
+use mathlib.Core.Path.{_≡_}
+use mathlib.Core.Bool.{true}
 use mathlib.Core.List.{List, [], _∷_}
 use Rattle.meaning.specs.Numbers.{Settings, settingsAllowed}
 use Rattle.meaning.specs.Box.{Box, Packet, sound}
 use Rattle.meaning.specs.Calls.{newBox}
-use Rattle.meaning.proofs.KeepsSound.{new-box-sound, admission-keeps-sound, offer-keeps-sound, step-keeps-sound}
+use Rattle.meaning.proofs.KeepsSound.{admission-keeps-sound, offer-keeps-sound, step-keeps-sound}
 use Rattle.guarantees.specs.Runs.{Call, admit, offer, step, after, boxAfter, Departure, boxOf, acceptedOf, departedOf}
 use Rattle.guarantees.proofs.Moves.{Move, run-keeps}
 use Rattle.guarantees.proofs.Known.{Known, known-new, known-moves}

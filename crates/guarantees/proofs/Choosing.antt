@@ -1,22 +1,22 @@
 -- What the queues give: a packet joins, the lowest head is taken, the queues turn; and the head taken is the least by rank and serial.
 use Prim.Native.Nat.{ℕ, zero, suc, _+_, _/_, _≤_, _<_}
-use mathlib.Core.Path.{_≡_, refl, sym, _∙_, ap}
-use mathlib.Core.Bool.{Bool, true, false, _&&_, and-eq-true-iff}
+use mathlib.Core.Path.{_≡_, refl, _∙_, ap}
+use mathlib.Core.Bool.{Bool, true, _&&_, and-eq-true-iff}
 use mathlib.Core.List.{List, [], _∷_, _++_, map, flatten, List·Memᴰ, List·Memᴰ·head, List·Memᴰ·tail, List·Memᴰ·not-nil, List·Memᴰ·cases-cons, List·Memᴰ·append-cases, Memᴰ·map}
 use mathlib.Core.Logic.{_⊎_, inl, inr, ⊎-elim}
-use mathlib.Core.Option.{Option, none, some}
-use lib.Dec.{leb, ltb, eqb}
+use mathlib.Core.Option.{some}
+use lib.Dec.{ltb, eqb}
 use lib.ListN.{length}
 use borrow.Author.Tests.{ltb-true, eqb-true}
 use native.Mathlib.Omega.{arith}
 use Rattle.laws.specs.Tests.{every, every-at}
 use Rattle.laws.specs.Sums.{sumOf, sum-append}
 use Rattle.laws.specs.SumLaws.{sum-one}
-use Rattle.laws.specs.Putting.{Put, Same, same-refl, sum-flatten-last}
+use Rattle.laws.specs.Putting.{Put, Same, sum-flatten-last}
 use Rattle.meaning.specs.Numbers.{risingAbove}
 use Rattle.meaning.specs.Queues.{joinTail, turned, lowestHead, withoutLowestHead}
 use Rattle.meaning.specs.Box.{Box, Packet, rankIn, inTheirQueues, serialsRise, sound}
-use Rattle.meaning.proofs.Facts.{SoundFacts, sound-facts}
+use Rattle.meaning.proofs.Facts.{sound-facts}
 use Rattle.meaning.proofs.QueueLaws.{joined-member, turned-member}
 
 module _ {A : Type 0} where

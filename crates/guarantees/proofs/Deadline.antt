@@ -1,23 +1,23 @@
 -- No packet is in the box at its bound: the limits by class, and the test at the slot that they point to.
-use Prim.Native.Nat.{ℕ, zero, suc, _+_, _*_, _-_, _/_, _≤_, _<_}
-use mathlib.Core.Path.{_≡_, refl, sym, _∙_, ap, subst}
+use Prim.Native.Nat.{ℕ, _+_, _*_, _-_, _/_, _≤_, _<_}
+use mathlib.Core.Path.{_≡_, sym, _∙_, ap}
 use mathlib.Core.Bool.{Bool, true, false}
 use mathlib.Core.List.{List, List·Memᴰ}
 use mathlib.Core.Logic.{_⊎_, inl, inr, ⊎-elim}
-use native.Mathlib.Decide.{decLt, decLe, ℕ-discrete}
+use native.Mathlib.Decide.{decLt, ℕ-discrete}
 use native.Mathlib.Omega.{arith}
 use Rattle.laws.specs.SumLaws.{given, given-true, sum-member}
-use Rattle.meaning.specs.Numbers.{Settings, factor, bound, classCount}
+use Rattle.meaning.specs.Numbers.{factor, bound}
 use Rattle.meaning.specs.Queues.{rank}
-use Rattle.meaning.specs.Box.{Box, Packet, Link, free, carries, connection, waiting, rankIn}
-use Rattle.meaning.proofs.Facts.{SettingsFacts, ConnectionFacts, PacketFacts}
+use Rattle.meaning.specs.Box.{Box, Packet, carries, connection, waiting, rankIn}
+use Rattle.meaning.proofs.Facts.{ConnectionFacts}
 use Rattle.guarantees.proofs.Classes.{factor-rises, bound-apart}
-use Rattle.guarantees.proofs.Backlog.{waitingWork, linkWork, linkOther, arrivedSince, InTheWay, Busy, Backlog, OnLink}
+use Rattle.guarantees.proofs.Backlog.{waitingWork, linkWork, arrivedSince, InTheWay, Busy, Backlog}
 use Rattle.guarantees.proofs.Known.{Known}
 use Rattle.guarantees.proofs.Scheduled.{Scheduled}
 use Rattle.guarantees.proofs.Limits.{upTo, up-to-facts, up-to-closed, up-to-self, beyond-rank, not-above, below, beyond, earlier-interval, interval-of}
 use Rattle.guarantees.proofs.Ahead.{Conforming, classOf, KeepsLimits}
-use Rattle.guarantees.proofs.Enough.{boundOf, connection-of, none-in-the-way, far-in-the-way, near-in-the-way}
+use Rattle.guarantees.proofs.Enough.{connection-of, none-in-the-way, far-in-the-way, near-in-the-way}
 
 module _ (box : Box) (H : List Packet) (k : Known box H) (conforming : Conforming box H) (p : Packet) (m : List·Memᴰ p H) where
   -- The rotation interval.

@@ -1,24 +1,23 @@
 -- What a move does to the packets that wait and to the link: an accepted packet is put in; a step takes the packet that goes first,
 -- if the link is free, and sends a unit.
-use Prim.Native.Nat.{ℕ, zero, suc, _+_, _-_, _≤_, _<_}
-use mathlib.Core.Path.{_≡_, refl, sym, _∙_, ap}
+use Prim.Native.Nat.{ℕ, suc, _-_, _≤_}
+use mathlib.Core.Path.{_≡_, refl}
 use mathlib.Core.Bool.{Bool, true, false, cond}
-use mathlib.Core.List.{List, [], _∷_, _++_, map, flatten, List·Memᴰ, List·Memᴰ·not-nil}
+use mathlib.Core.List.{List, [], map, flatten, List·Memᴰ, List·Memᴰ·not-nil}
 use mathlib.Core.Logic.{_⊎_, inl, inr}
 use mathlib.Core.Option.{Option, none, some}
-use lib.Dec.{leb}
-use lib.ListN.{length, getD, length-map}
+use lib.ListN.{length, length-map}
 use native.Mathlib.Omega.{arith}
-use Rattle.laws.specs.Tests.{within, within-facts}
+use Rattle.laws.specs.Tests.{within-facts}
 use Rattle.laws.specs.Putting.{Put, Same, same-refl}
 use Rattle.laws.specs.Lists.{getD-member}
 use Rattle.meaning.specs.declared.Offered.{Offered}
-use Rattle.meaning.specs.Numbers.{Connection, factor, largestFactor}
+use Rattle.meaning.specs.Numbers.{factor}
 use Rattle.meaning.specs.Box.{Box, Standing, Packet, Link, free, carries, connections, connection, noConnection, stands, waiting, sound}
 use Rattle.meaning.specs.Queues.{turned, lowestHead, withoutLowestHead}
 use Rattle.meaning.specs.Calls.{afterOffer, joined}
 use Rattle.meaning.specs.Step.{loaded, linkTaken, queuesTaken, linkSent, turnDue, queuesStepped, moved}
-use Rattle.meaning.proofs.Facts.{SettingsFacts, settings-facts, ConnectionFacts, SoundFacts, sound-facts}
+use Rattle.meaning.proofs.Facts.{settings-facts, ConnectionFacts, sound-facts}
 use Rattle.meaning.proofs.QueueLaws.{lowest-member, without-member, nothing-waits, nothing-taken}
 use Rattle.meaning.proofs.KeptByOffer.{factor-within}
 use Rattle.guarantees.proofs.Admitting.{standing-facts}

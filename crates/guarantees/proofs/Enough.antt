@@ -1,28 +1,23 @@
 -- The printed test is enough: where (11) and (12) hold at every t, no account of the link lets a packet stay to its bound.
-use Prim.Native.Nat.{ℕ, zero, suc, _+_, _*_, _-_, _/_, _≤_, _<_}
-use mathlib.Core.Path.{_≡_, refl, sym, _∙_, ap}
-use mathlib.Core.Bool.{Bool, true, false, cond}
+use Prim.Native.Nat.{ℕ, _+_, _≤_, _<_}
+use mathlib.Core.Path.{_≡_}
+use mathlib.Core.Bool.{Bool, true, cond}
 use mathlib.Core.List.{List, List·Memᴰ}
-use mathlib.Core.Logic.{_⊎_, inl, inr, ⊎-elim}
-use lib.Dec.{leb, ltb, eqb}
-use lib.ListN.{length}
+use lib.Dec.{ltb}
 use borrow.Author.Tests.{lt-ltb, le-leb, ne-eqb}
 use native.Mathlib.Nat.{le-trans}
-use native.Mathlib.Decide.{decLt, decLe, ℕ-discrete}
 use native.Mathlib.Omega.{arith}
 use Rattle.laws.specs.SumLaws.{largest-member}
-use Rattle.meaning.specs.Numbers.{Settings, Connection, factor, bound, largestBound, classCount}
-use Rattle.meaning.specs.Envelope.{envelope, delayed, IsEnvelope}
-use Rattle.meaning.specs.Admission.{term, sumAt, inTheWay}
-use Rattle.meaning.specs.Queues.{rank}
-use Rattle.meaning.specs.Box.{Box, Packet, connections, connection, rankIn}
-use Rattle.meaning.proofs.Facts.{SettingsFacts, ConnectionFacts, PacketFacts}
-use Rattle.guarantees.proofs.Classes.{factor-rises, bound-most, bound-apart}
-use Rattle.guarantees.proofs.WithoutEnd.{ConditionFacts, condition-facts, envelope-laws}
-use Rattle.guarantees.proofs.Backlog.{arrivedSince, InTheWay}
+use Rattle.meaning.specs.Numbers.{bound}
+use Rattle.meaning.specs.Envelope.{delayed}
+use Rattle.meaning.specs.Admission.{term, inTheWay}
+use Rattle.meaning.specs.Box.{Box, Packet, connections, connection}
+use Rattle.meaning.proofs.Facts.{ConnectionFacts}
+use Rattle.guarantees.proofs.Classes.{bound-most}
+use Rattle.guarantees.proofs.WithoutEnd.{condition-facts, envelope-laws}
+use Rattle.guarantees.proofs.Backlog.{arrivedSince}
 use Rattle.guarantees.proofs.Known.{Known}
 use Rattle.guarantees.proofs.Effects.{connection-member}
-use Rattle.guarantees.proofs.Limits.{upTo, up-to-facts, beyond-rank, not-above, below, beyond, earlier-interval, interval-of}
 use Rattle.guarantees.proofs.Ahead.{Conforming, classOf, KeepsLimits, ahead-sum, ahead-spare}
 
 module _ (box : Box) (H : List Packet) (k : Known box H) (conforming : Conforming box H) where

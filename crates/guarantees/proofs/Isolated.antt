@@ -1,28 +1,25 @@
 -- Isolation: what a connection is told depends on the admissions and on its own offers alone.
-use Prim.Native.Nat.{ℕ, zero, suc, _+_, _-_, _≤_, _<_}
+use Prim.Native.Nat.{ℕ, suc, _-_, _≤_}
 use mathlib.Core.Path.{_≡_, refl, sym, _∙_, ap, subst}
-use mathlib.Core.Bool.{Bool, true, false, cond, not, _&&_, and-eq-true-iff, true≢false}
+use mathlib.Core.Bool.{true, false, cond, not, and-eq-true-iff, true≢false}
 use mathlib.Core.List.{List, [], _∷_, _++_, map, map-append}
-use mathlib.Core.Logic.{_⊎_, inl, inr, ⊎-elim}
 use lib.Dec.{leb, eqb}
 use lib.ListN.{length, getD, length-map}
 use borrow.Author.Tests.{not-true, eq-eqb, ne-eqb}
-use native.Mathlib.Decide.{decLe, ℕ-discrete}
-use native.Mathlib.Omega.{arith}
-use Rattle.laws.specs.Tests.{within, within-facts, bool-cases, every}
-use Rattle.laws.specs.Search.{Search, failsAt, holds}
+use native.Mathlib.Decide.{ℕ-discrete}
+use Rattle.laws.specs.Tests.{within, within-facts, every}
 use Rattle.laws.specs.Places.{getD-last}
 use Rattle.meaning.specs.declared.Admitted.{Admitted}
 use Rattle.meaning.specs.declared.Offered.{Offered}
 use Rattle.meaning.specs.declared.Stepped.{Stepped}
-use Rattle.meaning.specs.Numbers.{Settings, Connection, settingsAllowed, connectionAllowed, mostConnections, mostWaiting}
+use Rattle.meaning.specs.Numbers.{Settings, Connection, settingsAllowed, connectionAllowed, mostConnections}
 use Rattle.meaning.specs.Envelope.{Allowance, full, conforms, charged}
 use Rattle.meaning.specs.Admission.{rateHolds, finiteSearch}
-use Rattle.meaning.specs.Box.{Box, Standing, Packet, connections, connection, noConnection, stands, waiting, sound}
+use Rattle.meaning.specs.Box.{Box, Standing, connections, connection, noConnection, stands, sound}
 use Rattle.meaning.specs.Calls.{newBox, withNewcomer, searchAnswer, admissionAnswer, withStanding, afterAdmission, allowance, offerAnswer, afterOffer}
 use Rattle.meaning.specs.Step.{stepAnswer, moved, afterStep}
 use Rattle.meaning.proofs.KeepsSound.{new-box-sound}
-use Rattle.guarantees.specs.Runs.{Call, admit, offer, step, Reply, toAdmission, toOffer, toStep, reply, after, Event, trace}
+use Rattle.guarantees.specs.Runs.{Call, admit, offer, step, toOffer, reply, after, Event, trace}
 use Rattle.guarantees.specs.Isolation.{Ask, admission, offering, askOf, asked, serialAside, answerTo, told, isTen, neverTen}
 use Rattle.guarantees.proofs.Saying.{OfferSays, offer-says}
 use Rattle.guarantees.proofs.Moves.{move-grows, call-moves}

@@ -1,25 +1,22 @@
 -- What is known of a box and the packets accepted so far, after every run.
-use Prim.Native.Nat.{ℕ, zero, suc, _+_, _-_, _≤_, _<_}
-use mathlib.Core.Path.{_≡_, refl, sym, _∙_, ap}
-use mathlib.Core.Bool.{Bool, true, false, cond}
-use mathlib.Core.List.{List, [], _∷_, _++_, map, flatten, map-append, List·Memᴰ, List·Memᴰ·not-nil, List·Memᴰ·eq-of-singleton, List·Memᴰ·append-cases, Memᴰ·append-left, Memᴰ·append-right}
+use Prim.Native.Nat.{ℕ, suc, _-_, _≤_}
+use mathlib.Core.Path.{_≡_, ap}
+use mathlib.Core.Bool.{true}
+use mathlib.Core.List.{List, [], _∷_, _++_, map, map-append, List·Memᴰ, List·Memᴰ·not-nil, List·Memᴰ·eq-of-singleton, List·Memᴰ·append-cases, Memᴰ·append-left, Memᴰ·append-right}
 use mathlib.Core.Logic.{_⊎_, inl, inr, ⊎-elim}
-use lib.Dec.{leb}
 use lib.ListN.{length}
-use borrow.Author.Tests.{le-leb}
 use native.Mathlib.Omega.{arith}
-use Rattle.laws.specs.Tests.{within, within-facts}
+use Rattle.laws.specs.Tests.{within-facts}
 use Rattle.laws.specs.Sums.{sumOf, largestOf}
-use Rattle.laws.specs.Putting.{Put, Same}
 use Rattle.meaning.specs.declared.Admitted.{Admitted}
 use Rattle.meaning.specs.declared.Offered.{Offered}
-use Rattle.meaning.specs.Numbers.{Settings, Connection, settingsAllowed, connectionAllowed}
+use Rattle.meaning.specs.Numbers.{Settings, Connection, settingsAllowed}
 use Rattle.meaning.specs.Envelope.{full}
-use Rattle.meaning.specs.Admission.{HoldsWithoutEnd, conditionAt, sumAt, inTheWay}
-use Rattle.meaning.specs.Box.{Box, Standing, Packet, Link, free, carries, connections, connection, stands, waiting, sound}
+use Rattle.meaning.specs.Admission.{HoldsWithoutEnd, sumAt, inTheWay}
+use Rattle.meaning.specs.Box.{Box, Standing, Packet, Link, free, carries, connections, connection, stands, waiting}
 use Rattle.meaning.specs.Queues.{emptyQueues}
-use Rattle.meaning.specs.Calls.{newBox, withNewcomer, withStanding, admissionAnswer, afterOffer, chargedAt}
-use Rattle.meaning.specs.Step.{linkTaken, queuesTaken, linkSent, moved}
+use Rattle.meaning.specs.Calls.{newBox, withNewcomer, withStanding, admissionAnswer, afterOffer}
+use Rattle.meaning.specs.Step.{linkSent, moved}
 use Rattle.meaning.proofs.Facts.{SettingsFacts, settings-facts, ConnectionFacts, PacketFacts}
 use Rattle.meaning.proofs.QueueLaws.{empty-flatten}
 use Rattle.guarantees.specs.Runs.{Departure}

@@ -1,35 +1,31 @@
 -- After every run each connection's allowance record stands for the packets of the connection that were accepted, and these are within
 -- the connection's envelope over every closed stretch.
-use Prim.Native.Nat.{ℕ, zero, suc, _+_, _*_, _-_, _/_, _≤_, _<_}
-use mathlib.Core.Path.{_≡_, refl, sym, _∙_, ap, subst}
-use mathlib.Core.Bool.{Bool, true, false, cond}
-use mathlib.Core.List.{List, [], _∷_, _++_, map, map-append, List·Memᴰ}
-use mathlib.Core.Logic.{_⊎_, inl, inr, ⊎-elim}
-use lib.Dec.{leb}
-use lib.ListN.{length, getD, set, length-append, length-set, length-map, List·getD-append}
-use lib.Seq.{getD-set-same, getD-set-other, getD-append-add, getD-at}
+use Prim.Native.Nat.{ℕ, suc, _+_, _-_, _≤_}
+use mathlib.Core.Path.{_≡_, refl, sym, _∙_, subst}
+use mathlib.Core.Bool.{true}
+use mathlib.Core.List.{List, [], _∷_, _++_}
+use lib.ListN.{length, set, length-append, length-set}
 use native.Mathlib.Nat.{mul-le-mul-left, le-trans}
 use native.Mathlib.Decide.{decLe, ℕ-discrete}
 use native.Mathlib.Omega.{arith}
-use Rattle.laws.specs.Tests.{within, within-facts, everyBelow}
+use Rattle.laws.specs.Tests.{within-facts}
 use Rattle.laws.specs.Sums.{sumOf}
-use Rattle.meaning.specs.declared.Admitted.{Admitted}
 use Rattle.meaning.specs.declared.Offered.{Offered}
 use Rattle.meaning.specs.Numbers.{Settings, Connection}
 use Rattle.meaning.specs.Envelope.{Allowance, mayHave, envelope, countIn, fits, full, conforms, charged}
-use Rattle.meaning.specs.Box.{Box, Standing, Packet, connections, connection, noConnection, stands}
-use Rattle.meaning.specs.Calls.{newBox, withStanding, admissionAnswer, allowance, afterOffer, chargedAt}
+use Rattle.meaning.specs.Box.{Box, Standing, Packet, connection, stands}
+use Rattle.meaning.specs.Calls.{newBox, withStanding, allowance, afterOffer, chargedAt}
 use Rattle.meaning.specs.Step.{moved}
-use Rattle.meaning.proofs.Facts.{ConnectionFacts, PacketFacts}
+use Rattle.meaning.proofs.Facts.{ConnectionFacts}
 use Rattle.meaning.proofs.Allowances.{Means, full-means, means-later}
 use Rattle.meaning.proofs.RecordFits.{Descending, numberOf, record-answers, record-charged}
 use Rattle.guarantees.specs.Runs.{Departure, slotsOf}
-use Rattle.guarantees.proofs.Saying.{OfferSays, StepGoes}
+use Rattle.guarantees.proofs.Saying.{OfferSays}
 use Rattle.guarantees.proofs.Moves.{Move, refused, joins, accepts, idles, sends, departs, newPacket, Grows, move-grows}
 use Rattle.guarantees.proofs.Records.{charged-mine, charged-other, joined-other, joined-allowance, joined-connection}
 use Rattle.guarantees.proofs.Effects.{connection-member}
 use Rattle.guarantees.proofs.Known.{Known}
-use Rattle.guarantees.proofs.Ahead.{unitsIn, Conforming}
+use Rattle.guarantees.proofs.Ahead.{Conforming}
 use Rattle.guarantees.proofs.Stretches.{slots-mine, slots-other, slots-none, descending-on, WithinMay, fitting-keeps, units-count}
 
 -- What is known of a connection with this contract, this record and these slots of accepted packets, at a slot.

@@ -1,10 +1,10 @@
 -- Every call of a run is one of six moves on a box and its history; an invariant of the moves holds after every run.
-use Prim.Native.Nat.{ℕ, zero, suc, _+_, _-_, _≤_, _<_}
-use mathlib.Core.Path.{_≡_, refl, sym, _∙_, ap}
-use mathlib.Core.Bool.{Bool, true, false, cond, not, _&&_}
+use Prim.Native.Nat.{ℕ, suc, _-_, _≤_}
+use mathlib.Core.Path.{_≡_, refl}
+use mathlib.Core.Bool.{true, false}
 use mathlib.Core.List.{List, [], _∷_, _++_, map, append-nil, append-assoc, map-append}
 use lib.Dec.{leb}
-use lib.ListN.{length, getD, length-append, length-set, length-map, List·getD-append}
+use lib.ListN.{length, length-append, length-set, length-map, List·getD-append}
 use lib.Seq.{map-set-same}
 use native.Mathlib.Omega.{arith}
 use Rattle.meaning.specs.declared.Admitted.{Admitted}
@@ -12,14 +12,12 @@ use Rattle.meaning.specs.declared.Offered.{Offered}
 use Rattle.meaning.specs.declared.Stepped.{Stepped}
 use Rattle.meaning.specs.Numbers.{Connection}
 use Rattle.meaning.specs.Envelope.{full}
-use Rattle.meaning.specs.Box.{Box, Standing, Packet, Link, free, carries, connections, connection, noConnection, stands, rankIn, sound}
-use Rattle.meaning.specs.Queues.{rank}
+use Rattle.meaning.specs.Box.{Box, Standing, Packet, free, carries, connections, connection, noConnection, rankIn}
 use Rattle.meaning.specs.Calls.{admissionAnswer, withStanding, afterAdmission, offerAnswer, afterOffer, chargedAt}
 use Rattle.meaning.specs.Step.{linkTaken, stepAnswer, moved, afterStep}
 use Rattle.meaning.proofs.Facts.{PacketFacts}
-use Rattle.laws.specs.Tests.{within, within-facts}
-use Rattle.guarantees.specs.Runs.{Call, admit, offer, step, Reply, toAdmission, toOffer, toStep, reply, after, boxAfter, Event, trace, offerTaken, packetTaken, acceptedIn, Departure, stepLeft, packetLeft, departedIn}
-use Rattle.guarantees.proofs.Saying.{AdmissionSays, admission-says, OfferSays, offer-says, StepGoes, StepSays, step-says}
+use Rattle.guarantees.specs.Runs.{Call, admit, offer, step, reply, after, boxAfter, trace, offerTaken, packetTaken, acceptedIn, Departure, stepLeft, packetLeft, departedIn}
+use Rattle.guarantees.proofs.Saying.{OfferSays, offer-says, StepGoes, StepSays, step-says}
 
 -- The packet that an accepted offer brings in.
 abbrev pub newPacket : Box → ℕ → ℕ → Packet

@@ -1,32 +1,27 @@
 -- Never late: after every run no packet in the box has reached its bound, and every reported departure came by then.
-use Prim.Native.Nat.{ℕ, zero, suc, _+_, _*_, _-_, _/_, _≤_, _<_}
-use mathlib.Core.Path.{_≡_, refl, sym, _∙_, ap, subst}
-use mathlib.Core.Bool.{Bool, true, false, cond}
-use mathlib.Core.List.{List, [], _∷_, _++_, flatten, List·Memᴰ, List·Memᴰ·not-nil, List·Memᴰ·eq-of-singleton, List·Memᴰ·append-cases}
-use mathlib.Core.Logic.{_⊎_, inl, inr, ⊎-elim}
+use Prim.Native.Nat.{ℕ, suc, _≤_, _<_}
+use mathlib.Core.Path.{_≡_, refl}
+use mathlib.Core.List.{List, [], _∷_, List·Memᴰ, List·Memᴰ·not-nil, List·Memᴰ·eq-of-singleton, List·Memᴰ·append-cases}
+use mathlib.Core.Logic.{inl, inr, ⊎-elim}
 use lib.ListN.{length}
 use native.Mathlib.Decide.{ℕ-discrete}
 use native.Mathlib.Omega.{arith}
 use Rattle.laws.specs.Tests.{within-facts}
-use Rattle.laws.specs.Putting.{Put, Same}
 use Rattle.meaning.specs.declared.Offered.{Offered}
-use Rattle.meaning.specs.Numbers.{Settings, Connection, bound}
-use Rattle.meaning.specs.Box.{Box, Standing, Packet, Link, free, carries, connection, stands, waiting}
+use Rattle.meaning.specs.Numbers.{Settings}
+use Rattle.meaning.specs.Box.{Box, Packet, connection, stands, waiting}
 use Rattle.meaning.specs.Queues.{emptyQueues}
 use Rattle.meaning.specs.Calls.{newBox, withStanding, afterOffer}
-use Rattle.meaning.specs.Step.{linkTaken, queuesTaken, linkSent, moved}
-use Rattle.meaning.proofs.Facts.{ConnectionFacts, PacketFacts}
+use Rattle.meaning.specs.Step.{moved}
 use Rattle.meaning.proofs.QueueLaws.{empty-flatten}
 use Rattle.guarantees.specs.Runs.{Departure, dueBy}
 use Rattle.guarantees.proofs.Saying.{OfferSays, StepGoes}
 use Rattle.guarantees.proofs.Classes.{bound-least}
-use Rattle.guarantees.proofs.Backlog.{OnLink}
-use Rattle.guarantees.proofs.Sending.{sent-cases}
 use Rattle.guarantees.proofs.Moves.{Move, refused, joins, accepts, idles, sends, departs, newPacket, leaving, Grows, move-grows}
 use Rattle.guarantees.proofs.Effects.{accepted-put, taking, stepped-same, connection-member, InBox, taken-in-box, in-box-before}
 use Rattle.guarantees.proofs.Known.{Known}
 use Rattle.guarantees.proofs.Scheduled.{Scheduled}
-use Rattle.guarantees.proofs.Ahead.{Conforming, classOf}
+use Rattle.guarantees.proofs.Ahead.{Conforming}
 use Rattle.guarantees.proofs.Deadline.{not-at-bound}
 
 -- No packet in the box is at its bound, and every departure came by then.

@@ -1,27 +1,24 @@
 -- Every accepted packet is exactly once among waiting, on the link and departed.
-use Prim.Native.Nat.{ℕ, zero, suc, _+_, _-_, _≤_, _<_}
+use Prim.Native.Nat.{ℕ, suc, _+_, _≤_}
 use mathlib.Core.Path.{_≡_, refl, sym, _∙_, ap}
-use mathlib.Core.Bool.{Bool, true, false, cond, _&&_, true≢false}
-use mathlib.Core.List.{List, [], _∷_, _++_, flatten, List·Memᴰ}
-use mathlib.Core.Logic.{_⊎_, inl, inr, ⊎-elim}
+use mathlib.Core.Bool.{true, false, true≢false}
+use mathlib.Core.List.{List, [], _∷_, _++_, flatten}
+use mathlib.Core.Logic.{⊎-elim}
 use lib.Dec.{leb, eqb}
-use borrow.Author.Tests.{leb-true, leb-false, eq-eqb, ne-eqb}
+use borrow.Author.Tests.{eq-eqb, ne-eqb}
 use native.Mathlib.Decide.{ℕ-discrete, decLe}
 use native.Mathlib.Omega.{arith}
 use Rattle.laws.specs.Tests.{within, within-facts, within-test, bool-cases}
 use Rattle.laws.specs.Sums.{sumOf, sum-append}
 use Rattle.laws.specs.SumLaws.{given, given-true, given-false, sum-one}
-use Rattle.laws.specs.Putting.{Put, Same}
 use Rattle.meaning.specs.declared.Offered.{Offered}
 use Rattle.meaning.specs.Numbers.{Settings}
-use Rattle.meaning.specs.Box.{Box, Packet, Link, free, carries, waiting, onLink}
+use Rattle.meaning.specs.Box.{Box, Packet, Link, carries, waiting, onLink}
 use Rattle.meaning.specs.Queues.{emptyQueues}
 use Rattle.meaning.specs.Calls.{newBox, withStanding, afterOffer}
 use Rattle.meaning.specs.Step.{linkTaken, queuesTaken, linkSent, moved}
 use Rattle.meaning.proofs.QueueLaws.{empty-flatten}
 use Rattle.guarantees.specs.Runs.{Departure, timesAmong}
-use Rattle.guarantees.proofs.Saying.{OfferSays, StepGoes}
-use Rattle.guarantees.proofs.Sending.{sent-cases}
 use Rattle.guarantees.proofs.Moves.{Move, refused, joins, accepts, idles, sends, departs, newPacket, leaving}
 use Rattle.guarantees.proofs.Effects.{accepted-put, Taking, nothing, takes, carrying, taking, stepped-same}
 

@@ -1,29 +1,25 @@
 -- Departures of one connection come in the order of acceptance.
-use Prim.Native.Nat.{ℕ, zero, suc, _+_, _-_, _/_, _≤_, _<_}
+use Prim.Native.Nat.{ℕ, suc, _≤_, _<_}
 use mathlib.Core.Path.{_≡_, refl, sym, _∙_, ap}
-use mathlib.Core.Bool.{Bool, true, false, cond, not, _&&_, _||_, and-eq-true-iff}
+use mathlib.Core.Bool.{Bool, true, not, _||_, and-eq-true-iff}
 use mathlib.Core.List.{List, [], _∷_, _++_, flatten, List·Memᴰ, List·Memᴰ·head, List·Memᴰ·tail, List·Memᴰ·not-nil, List·Memᴰ·eq-of-singleton, List·Memᴰ·append-cases}
-use mathlib.Core.Logic.{_⊎_, inl, inr, ⊎-elim}
+use mathlib.Core.Logic.{inl, inr, ⊎-elim}
 use lib.Dec.{leb, ltb, eqb}
-use borrow.Author.Tests.{leb-true, lt-ltb, eqb-true, ne-eqb}
+use borrow.Author.Tests.{lt-ltb, ne-eqb}
 use native.Mathlib.Decide.{decLt, ℕ-discrete}
 use native.Mathlib.Omega.{arith}
-use Rattle.laws.specs.Tests.{every, every-at, every-all, bool-cases, or-left, or-right}
-use Rattle.laws.specs.Putting.{Put, Same}
+use Rattle.laws.specs.Tests.{every, every-at, every-all, or-left, or-right}
 use Rattle.meaning.specs.declared.Offered.{Offered}
 use Rattle.meaning.specs.Numbers.{Settings, factor}
 use Rattle.meaning.specs.Queues.{rank, emptyQueues}
 use Rattle.meaning.specs.Box.{Box, Packet, Link, free, carries, connection, waiting, rankIn}
 use Rattle.meaning.specs.Calls.{newBox, withStanding, afterOffer}
 use Rattle.meaning.specs.Step.{linkTaken, queuesTaken, linkSent, moved}
-use Rattle.meaning.proofs.Facts.{SettingsFacts, PacketFacts}
-use Rattle.meaning.proofs.QueueLaws.{empty-flatten}
 use Rattle.guarantees.specs.Runs.{Departure, inOrder}
 use Rattle.guarantees.proofs.Saying.{OfferSays, StepGoes}
 use Rattle.guarantees.proofs.Choosing.{Before}
 use Rattle.guarantees.proofs.Limits.{earlier-interval}
-use Rattle.guarantees.proofs.Backlog.{OnLink}
-use Rattle.guarantees.proofs.Sending.{sent-is, sent-cases}
+use Rattle.guarantees.proofs.Sending.{sent-is}
 use Rattle.guarantees.proofs.Moves.{Move, refused, joins, accepts, idles, sends, departs, newPacket, leaving}
 use Rattle.guarantees.proofs.Effects.{accepted-put, Taking, nothing, takes, carrying, taking, stepped-same, InBox, taken-in-box, in-box-before}
 use Rattle.guarantees.proofs.Known.{Known}

@@ -1,8 +1,8 @@
 -- The allowance records after a call: an accepted packet charges its own connection's, a newcomer's is fresh, and all others stay.
-use Prim.Native.Nat.{ℕ, zero, suc, _+_, _-_, _≤_, _<_}
-use mathlib.Core.Path.{_≡_, refl, sym, _∙_, ap}
-use mathlib.Core.List.{List, [], _∷_, _++_, map, map-append}
-use lib.ListN.{length, getD, length-map, List·getD-append}
+use Prim.Native.Nat.{ℕ, suc, _-_, _≤_}
+use mathlib.Core.Path.{_≡_}
+use mathlib.Core.List.{[], _∷_, _++_, map, map-append}
+use lib.ListN.{length, length-map, List·getD-append}
 use lib.Seq.{getD-set-same, getD-set-other}
 use native.Mathlib.Omega.{arith}
 use Rattle.laws.specs.Places.{map-set, last-at}

@@ -1,11 +1,9 @@
 -- What each answer of a call says of the box that gave it: the refusals before it did not apply, and its own reason did.
-use Prim.Native.Nat.{ℕ, zero, suc, _+_, _-_, _≤_, _<_}
-use mathlib.Core.Path.{_≡_, refl, sym, _∙_, ap}
-use mathlib.Core.Bool.{Bool, true, false, cond, not, _&&_, and-eq-true-iff}
-use mathlib.Core.List.{List, [], _∷_}
-use lib.Dec.{leb, ltb, eqb}
+use Prim.Native.Nat.{ℕ, suc, _-_}
+use mathlib.Core.Path.{_≡_, refl}
+use mathlib.Core.Bool.{Bool, true, false, cond, not, _&&_}
+use lib.Dec.{leb}
 use lib.ListN.{length}
-use borrow.Author.Tests.{leb-true, leb-false}
 use Rattle.laws.specs.Tests.{within}
 use Rattle.laws.specs.Search.{Search, failsAt, holds}
 use Rattle.meaning.specs.declared.Admitted.{Admitted}

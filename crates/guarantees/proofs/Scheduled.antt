@@ -1,24 +1,23 @@
 -- The scheduling fact holds after every run, for every set of packets that with a packet has all that go before it.
-use Prim.Native.Nat.{ℕ, zero, suc, _+_, _-_, _≤_, _<_}
-use mathlib.Core.Path.{_≡_, refl, sym, _∙_, ap, subst}
-use mathlib.Core.Bool.{Bool, true, false}
-use mathlib.Core.List.{List, [], _∷_, _++_, flatten, List·Memᴰ, Memᴰ·append-left}
-use mathlib.Core.Logic.{_⊎_, inl, inr, ⊎-elim}
+use Prim.Native.Nat.{ℕ, suc, _<_}
+use mathlib.Core.Path.{_≡_, refl, subst}
+use mathlib.Core.Bool.{Bool, true}
+use mathlib.Core.List.{List, [], _∷_, _++_, List·Memᴰ, Memᴰ·append-left}
+use mathlib.Core.Logic.{inl, inr, ⊎-elim}
 use native.Mathlib.Omega.{arith}
 use Rattle.laws.specs.Sums.{sumOf}
-use Rattle.laws.specs.Putting.{Put, Same}
+use Rattle.laws.specs.Putting.{Same}
 use Rattle.meaning.specs.declared.Offered.{Offered}
 use Rattle.meaning.specs.Numbers.{Settings}
-use Rattle.meaning.specs.Box.{Box, Packet, Link, free, carries, waiting, rankIn, sound}
+use Rattle.meaning.specs.Box.{Box, Packet, Link, waiting, rankIn}
 use Rattle.meaning.specs.Queues.{emptyQueues}
 use Rattle.meaning.specs.Calls.{newBox, withStanding, afterOffer}
-use Rattle.meaning.specs.Step.{linkTaken, queuesTaken, linkSent, moved}
-use Rattle.meaning.proofs.Facts.{PacketFacts}
+use Rattle.meaning.specs.Step.{linkSent, moved}
 use Rattle.meaning.proofs.QueueLaws.{empty-flatten}
 use Rattle.guarantees.specs.Runs.{Departure}
 use Rattle.guarantees.proofs.Saying.{OfferSays, StepGoes}
 use Rattle.guarantees.proofs.Choosing.{Before}
-use Rattle.guarantees.proofs.Backlog.{waitingWork, linkWork, Busy, Backlog, OnLink, accept-keeps}
+use Rattle.guarantees.proofs.Backlog.{waitingWork, linkWork, Backlog, accept-keeps}
 use Rattle.guarantees.proofs.Sending.{take-keeps, send-keeps, idle-keeps}
 use Rattle.guarantees.proofs.Moves.{Move, refused, joins, accepts, idles, sends, departs, newPacket, Grows, move-grows, rank-stays}
 use Rattle.guarantees.proofs.Effects.{accepted-put, Taking, nothing, takes, carrying, taking, stepped-same}

@@ -1,19 +1,19 @@
 -- The scheduling fact is kept by a step: the next packet is taken, and a unit is sent.
-use Prim.Native.Nat.{ℕ, zero, suc, _+_, _-_, _≤_, _<_}
+use Prim.Native.Nat.{ℕ, suc, _+_, _-_, _≤_}
 use mathlib.Core.Path.{_≡_, refl, sym, _∙_, ap}
-use mathlib.Core.Bool.{Bool, true, false, cond, not, _&&_, true≢false}
-use mathlib.Core.List.{List, [], _∷_, _++_, List·Memᴰ}
+use mathlib.Core.Bool.{Bool, true, false, cond, not, true≢false}
+use mathlib.Core.List.{List, [], List·Memᴰ}
 use mathlib.Core.Logic.{_⊎_, inl, inr, ⊎-elim}
-use lib.Dec.{leb, ltb, eqb}
-use borrow.Author.Tests.{leb-true, leb-false, le-leb}
+use lib.Dec.{leb}
+use borrow.Author.Tests.{leb-true, leb-false}
 use native.Mathlib.Omega.{arith}
 use Rattle.laws.specs.Tests.{bool-cases}
 use Rattle.laws.specs.Sums.{sumOf}
 use Rattle.laws.specs.SumLaws.{given, given-true, given-false, sum-zero}
 use Rattle.laws.specs.Putting.{Put, Same}
-use Rattle.meaning.specs.Box.{Packet, Link, free, carries}
+use Rattle.meaning.specs.Box.{Packet, free, carries}
 use Rattle.meaning.specs.Step.{linkSent}
-use Rattle.guarantees.proofs.Backlog.{waitingWork, linkWork, linkOther, arrivedSince, InTheWay, Busy, Backlog}
+use Rattle.guarantees.proofs.Backlog.{waitingWork, linkWork, linkOther, Backlog}
 
 -- What a sent unit leaves on the link: nothing, or the same packet with a unit less.
 pub sent-cases : (p : Packet) (left : ℕ) → ((left ≤ 1) × (linkSent (carries p left) ≡ free)) ⊎ ((2 ≤ left) × (linkSent (carries p left) ≡ carries p (left - 1)))

@@ -1,32 +1,28 @@
 -- Demand 3: what holds of every run from a new box, any list of admissions, offers and steps, refused ones among them.
-use Prim.Native.Nat.{ℕ, zero, suc, _+_, _*_, _-_, _/_, _≤_, _<_}
+use Prim.Native.Nat.{ℕ, suc, _+_, _≤_, _<_}
 use mathlib.Core.Path.{_≡_, refl, sym, _∙_, ap, subst}
-use mathlib.Core.Bool.{Bool, true, false, cond, not, _&&_, and-eq-true-iff, true≢false}
-use mathlib.Core.List.{List, [], _∷_, _++_, List·Memᴰ}
+use mathlib.Core.Bool.{Bool, true, false, _&&_, and-eq-true-iff, true≢false}
+use mathlib.Core.List.{List, List·Memᴰ}
 use mathlib.Core.Logic.{_⊎_, inl, inr, ⊎-elim}
-use lib.Dec.{leb, eqb}
+use lib.Dec.{eqb}
 use lib.ListN.{length}
-use borrow.Author.Tests.{leb-true, leb-false, eqb-true, eq-eqb, ne-eqb}
-use native.Mathlib.Decide.{decLe}
+use borrow.Author.Tests.{leb-true, eqb-true, eq-eqb}
 use native.Mathlib.Omega.{arith}
 use Rattle.laws.specs.Tests.{within, within-facts, within-test, bool-cases}
 use Rattle.laws.specs.Sums.{sumOf}
 use Rattle.laws.specs.SumLaws.{given, given-true, given-false, sum-member, sum-one, sum-zero, sum-found}
 use Rattle.meaning.specs.declared.Offered.{Offered}
-use Rattle.meaning.specs.Numbers.{Settings, Connection, settingsAllowed, mostWaiting}
+use Rattle.meaning.specs.Numbers.{Settings, settingsAllowed, mostWaiting}
 use Rattle.meaning.specs.Envelope.{mayHave, countIn, fits, conforms}
 use Rattle.meaning.specs.Box.{Box, Packet, Link, free, carries, connection, stands, waiting, onLink, sound}
 use Rattle.meaning.specs.Calls.{newBox, allowance, offerAnswer}
-use Rattle.meaning.proofs.Facts.{ConnectionFacts, PacketFacts, SoundFacts, sound-facts}
+use Rattle.meaning.proofs.Facts.{ConnectionFacts, sound-facts}
 use Rattle.meaning.proofs.KeepsSound.{new-box-sound}
 use Rattle.guarantees.specs.Runs.{Call, Departure, inOrder, slotsOf, timesAmong, timesDeparted, dueBy, boxOf, acceptedOf, departedOf}
 use Rattle.guarantees.proofs.Saying.{OfferSays, offer-says}
 use Rattle.guarantees.proofs.Effects.{InBox, connection-member}
-use Rattle.guarantees.proofs.Known.{Known}
-use Rattle.guarantees.proofs.Metered.{Metered, Meter, meter-answers}
-use Rattle.guarantees.proofs.OnTime.{OnTime, in-box-known}
+use Rattle.guarantees.proofs.Metered.{meter-answers}
 use Rattle.guarantees.proofs.Once.{ofPackets, ofDepartures}
-use Rattle.guarantees.proofs.Order.{Ordered}
 use Rattle.guarantees.proofs.Always.{Always, always, sound-along}
 
 -- The packet of this serial, connection and arrival.

@@ -1,16 +1,14 @@
 -- The slots at which a connection's packets were accepted: if each of them fitted when it came, no closed stretch has more than it may.
-use Prim.Native.Nat.{ℕ, zero, suc, _+_, _*_, _-_, _/_, _≤_, _<_}
-use mathlib.Core.Path.{_≡_, refl, sym, _∙_, ap}
-use mathlib.Core.Bool.{Bool, true, false, cond, _&&_, and-eq-true-iff}
-use mathlib.Core.List.{List, [], _∷_, _++_, append-assoc, List·Memᴰ, List·Memᴰ·head, List·Memᴰ·tail}
-use mathlib.Core.Logic.{_⊎_, inl, inr, ⊎-elim}
+use Prim.Native.Nat.{ℕ, suc, _+_, _*_, _-_, _≤_}
+use mathlib.Core.Path.{_≡_, refl}
+use mathlib.Core.Bool.{Bool, true, false, cond, _&&_}
+use mathlib.Core.List.{List, [], _∷_, _++_, List·Memᴰ, List·Memᴰ·head, List·Memᴰ·tail}
 use lib.Dec.{leb, eqb}
 use borrow.Author.Tests.{leb-true, eqb-true, eq-eqb, ne-eqb}
-use native.Mathlib.Nat.{mul-le-mul-left, mul-add}
 use native.Mathlib.Omega.{arith}
-use Rattle.laws.specs.Tests.{within, within-facts, within-test, bool-cases, everyBelow, everyBelow-at}
+use Rattle.laws.specs.Tests.{within, within-facts, within-test, everyBelow-at}
 use Rattle.laws.specs.Sums.{sumOf, sum-append}
-use Rattle.laws.specs.SumLaws.{given, sum-one}
+use Rattle.laws.specs.SumLaws.{given}
 use Rattle.laws.specs.Division.{div-mono}
 use Rattle.meaning.specs.Numbers.{Connection}
 use Rattle.meaning.specs.Envelope.{mayHave, countIn, fits}

@@ -1,27 +1,23 @@
 -- Document 01, "Admission": the finite search decides the conditions at every t without end. Over any envelope with the laws of
 -- `IsEnvelope`; equation (31) is the instance.
-use Prim.Native.Nat.{ℕ, zero, suc, _+_, _*_, _-_, _/_, _≤_, _<_}
+use Prim.Native.Nat.{ℕ, _+_, _*_, _-_, _/_, _≤_, _<_}
 use mathlib.Core.Path.{_≡_, refl, sym, _∙_, ap}
 use mathlib.Core.Bool.{Bool, true, false, cond, not, _&&_, _||_, and-eq-true-iff, true≢false}
-use mathlib.Core.List.{List, [], _∷_, _++_, List·Memᴰ, List·Memᴰ·append-cases, List·Memᴰ·eq-of-singleton}
+use mathlib.Core.List.{List, _∷_, _++_, List·Memᴰ}
 use lib.Dec.{leb, ltb, eqb}
-use lib.ListN.{length}
-use borrow.Author.Tests.{leb-true, leb-false, le-leb, lt-leb, lt-ltb, ltb-true, ltb-false, le-ltb, eqb-true, eqb-false, not-true}
-use mathlib.Core.Logic.{_⊎_, inl, inr, ⊎-elim}
-use native.Mathlib.Nat.{mul-le-mul-left, mul-add}
-use native.Mathlib.Decide.{decLt, decLe}
+use borrow.Author.Tests.{leb-true, leb-false, le-leb, lt-ltb, ltb-true}
+use mathlib.Core.Logic.{⊎-elim}
+use native.Mathlib.Nat.{mul-le-mul-left}
 use native.Mathlib.Omega.{arith}
-use Rattle.laws.specs.Tests.{every, every-at, bool-cases}
-use Rattle.laws.specs.Search.{Search, failsAt, holds, firstFailing}
-use Rattle.laws.specs.Sums.{sumOf, largestOf, sum-add}
+use Rattle.laws.specs.Tests.{bool-cases}
+use Rattle.laws.specs.Sums.{sum-add}
 use Rattle.laws.specs.SumLaws.{sum-same, sum-put, largest-put}
-use Rattle.laws.specs.Finding.{Least, first-failing-fails, first-failing-holds}
 use Rattle.laws.specs.Division.{div-mono, div-add-multiple}
 use Rattle.laws.specs.Gaining.{all-follow, some-passes}
-use Rattle.meaning.specs.Numbers.{Settings, Connection, bound, largestBound, connectionAllowed, classCount, factor, settingsAllowed}
+use Rattle.meaning.specs.Numbers.{Settings, Connection, bound, largestBound}
 use Rattle.meaning.specs.Envelope.{mayHave, envelope, delayed, IsEnvelope}
-use Rattle.meaning.specs.Admission.{term, sumAt, inTheWay, eleven, twelveRange, twelve, conditionAt, HoldsWithoutEnd, rate, rateHolds, finiteSearch}
-use Rattle.meaning.proofs.Facts.{ConnectionFacts, connection-facts, SettingsFacts, settings-facts}
+use Rattle.meaning.specs.Admission.{term, sumAt, inTheWay, eleven, twelveRange, twelve, conditionAt, HoldsWithoutEnd, rate, rateHolds}
+use Rattle.meaning.proofs.Facts.{ConnectionFacts, SettingsFacts}
 use Rattle.guarantees.proofs.Classes.{bound-most}
 
 -- What a connection gains over each cycle M: s x (M/T).

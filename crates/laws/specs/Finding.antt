@@ -1,10 +1,10 @@
 -- What the two answers of the search for a first failing number say.
 use Prim.Native.Nat.{ℕ, zero, suc, _+_, _≤_, _<_}
-use mathlib.Core.Path.{_≡_, refl, sym, _∙_}
+use mathlib.Core.Path.{_≡_, refl}
 use mathlib.Core.Bool.{Bool, true, false}
-use native.Mathlib.Decide.{decLt, decLe}
+use native.Mathlib.Decide.{decLt}
 use native.Mathlib.Omega.{arith}
-use Rattle.laws.specs.Search.{Search, failsAt, holds, searchFrom, firstFailing}
+use Rattle.laws.specs.Search.{failsAt, holds, searchFrom, firstFailing}
 
 -- u is the least number, of those from t on, at which the test fails.
 pub record Least (test : ℕ → Bool) (t u : ℕ) : Type 0 where
