@@ -16,7 +16,7 @@ use Rattle.meaning.specs.Box.{Box, connections, sound}
 use Rattle.meaning.specs.Calls.{withNewcomer, admissionAnswer}
 use Rattle.meaning.proofs.Facts.{ConnectionFacts, connection-facts, settings-facts, sound-facts}
 use Rattle.guarantees.proofs.Saying.{AdmissionSays, admission-says}
-use Rattle.guarantees.proofs.WithoutEnd.{envelope-laws, all-slots-follow, some-slot-fails}
+use Rattle.guarantees.proofs.WithoutEnd.{all-slots-follow, some-slot-fails}
 
 -- The connections that stand in a sound box keep the table of numbers.
 pub standing-facts : (box : Box) → sound box ≡ true → (c : Connection) → List·Memᴰ c (connections box) → ConnectionFacts (box .settings) c
@@ -38,7 +38,7 @@ module _ (box : Box) (c : Connection) where
       let says : AdmissionSays box c (Admitted.Taken n) = rw e at (admission-says box c) in
       let f = newcomer-facts box (says .0) c (says .1) in
       all-slots-follow (box .settings) (settings-facts (box .settings) (sound-facts box (says .0) .settings-allowed)) (withNewcomer box c)
-      f (λ d m. envelope-laws (box .settings) d (f d m)) (says .3) (first-failing-holds _ _ (says .4))
+      f (says .3) (first-failing-holds _ _ (says .4))
 
   -- "the t given with 6 is the least that fails".
   pub least-that-fails : (t : ℕ) → admissionAnswer box c ≡ Admitted.ConditionFails t → Least (conditionAt (box .settings) (withNewcomer box c)) 0 t
@@ -53,7 +53,7 @@ module _ (box : Box) (c : Connection) where
       let says : AdmissionSays box c Admitted.RateExceeded = rw e at (admission-says box c) in
       let f = newcomer-facts box (says .0) c (says .1) in
       some-slot-fails (box .settings) (settings-facts (box .settings) (sound-facts box (says .0) .settings-allowed)) (withNewcomer box c)
-      f (λ d m. envelope-laws (box .settings) d (f d m)) (says .3)
+      f (says .3)
 
   -- With the numbers in range and room in the table, a connection is taken exactly when (11) and (12) hold at every t from 0 without end.
   pub taken-exactly-when : sound box ≡ true → connectionAllowed (box .settings) c ≡ true → length (box .standing) < mostConnections →

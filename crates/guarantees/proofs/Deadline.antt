@@ -9,6 +9,7 @@ use native.Mathlib.Omega.{arith}
 use Rattle.laws.specs.SumLaws.{given, given-true, sum-member}
 use Rattle.meaning.specs.Numbers.{factor, bound}
 use Rattle.meaning.specs.Queues.{rank}
+use Rattle.meaning.specs.Envelope.{envelope}
 use Rattle.meaning.specs.Box.{Box, Packet, carries, connection, waiting, rankIn}
 use Rattle.meaning.proofs.Facts.{ConnectionFacts}
 use Rattle.guarantees.proofs.Classes.{factor-rises, bound-apart}
@@ -16,10 +17,10 @@ use Rattle.guarantees.proofs.Backlog.{waitingWork, linkWork, arrivedSin
 use Rattle.guarantees.proofs.Known.{Known}
 use Rattle.guarantees.proofs.Scheduled.{Scheduled}
 use Rattle.guarantees.proofs.Limits.{upTo, up-to-facts, up-to-closed, up-to-self, beyond-rank, not-above, below, beyond, earlier-interval, interval-of}
-use Rattle.guarantees.proofs.Ahead.{Conforming, classOf, KeepsLimits}
+use Rattle.guarantees.proofs.Ahead.{KeepsEnvelope, classOf, KeepsLimits}
 use Rattle.guarantees.proofs.Enough.{connection-of, none-in-the-way, far-in-the-way, near-in-the-way}
 
-module _ (box : Box) (H : List Packet) (k : Known box H) (conforming : Conforming box H) (p : Packet) (m : List·Memᴰ p H) where
+module _ (box : Box) (H : List Packet) (k : Known box H) (conforming : KeepsEnvelope envelope box H) (p : Packet) (m : List·Memᴰ p H) where
   -- The rotation interval.
   abbrev D : ℕ
   D = box .settings .interval
@@ -88,7 +89,7 @@ module _ (box : Box) (H : List Packet) (k : Known box H) (conforming : Conformin
         after : u + T < u + rest + arrivedSince (upTo box p) u H
         after = omega arith
 
-        limits : KeepsLimits box H k conforming (upTo box p) u T
+        limits : KeepsLimits box H (upTo box p) u T
         limits x n e g =
             elim (ℕ-discrete (classOf box x) 1) [
               | yes c ↦ inl (
@@ -141,7 +142,7 @@ module _ (box : Box) (H : List Packet) (k : Known box H) (conforming : Conformin
         after : u + T < u + rest + arrivedSince (upTo box p) u H
         after = let s = starts in let e = sum in omega arith
 
-        limits : KeepsLimits box H k conforming (upTo box p) u T
+        limits : KeepsLimits box H (upTo box p) u T
         limits x n e g =
             elim (ℕ-discrete (classOf box x) 1) [
               | yes c ↦ inl (
@@ -182,7 +183,7 @@ in-box-works q box H k p e (inr l) =
     omega arith
 
 -- A packet in the box is not at its bound.
-pub not-at-bound : (box : Box) (H : List Packet) → Known box H → Conforming box H → Scheduled box H → (p : Packet) → List·Memᴰ p H →
+pub not-at-bound : (box : Box) (H : List Packet) → Known box H → KeepsEnvelope envelope box H → Scheduled box H → (p : Packet) → List·Memᴰ p H →
     List·Memᴰ p (waiting box) ⊎ ((left : ℕ) × (box .link ≡ carries p left)) →
     box .counter ≡ p .arrival + bound (box .settings) (classOf box p) → ⊥
 not-at-bound box H k conforming s p m inside now = go inside (s (upTo box p) (up-to-closed box H p))

@@ -9,8 +9,8 @@ use native.Mathlib.Nat.{le-trans}
 use native.Mathlib.Omega.{arith}
 use Rattle.laws.specs.SumLaws.{largest-member}
 use Rattle.meaning.specs.Numbers.{bound}
-use Rattle.meaning.specs.Envelope.{delayed}
-use Rattle.meaning.specs.Admission.{term, inTheWay}
+use Rattle.meaning.specs.Envelope.{envelope, delayed}
+use Rattle.meaning.specs.Admission.{term, sumAt, inTheWay}
 use Rattle.meaning.specs.Box.{Box, Packet, connections, connection}
 use Rattle.meaning.proofs.Facts.{ConnectionFacts}
 use Rattle.guarantees.proofs.Classes.{bound-most}
@@ -18,9 +18,9 @@ use Rattle.guarantees.proofs.WithoutEnd.{condition-facts, envelope-laws
 use Rattle.guarantees.proofs.Backlog.{arrivedSince}
 use Rattle.guarantees.proofs.Known.{Known}
 use Rattle.guarantees.proofs.Effects.{connection-member}
-use Rattle.guarantees.proofs.Ahead.{Conforming, classOf, KeepsLimits, ahead-sum, ahead-spare}
+use Rattle.guarantees.proofs.Ahead.{KeepsEnvelope, classOf, KeepsLimits, ahead-sum, ahead-spare}
 
-module _ (box : Box) (H : List Packet) (k : Known box H) (conforming : Conforming box H) where
+module _ (box : Box) (H : List Packet) (k : Known box H) (conforming : KeepsEnvelope envelope box H) where
   -- The bound of a packet.
   abbrev pub boundOf : Packet → ℕ
   boundOf x = bound (box .settings) (classOf box x)
@@ -50,16 +50,18 @@ module _ (box : Box) (H : List Packet) (k : Known box H) (conforming : Conformin
   module _ (q : Packet → Bool) (u rest : ℕ) where
     -- The printed test, at a T whose limits the packets ahead keep: with nothing in the way, with a packet in the way whose bound
     -- exceeds T + D, and with one whose bound does not and whose connection brings in nothing.
-    module _ (T : ℕ) (limits : KeepsLimits box H k conforming q u T) (late : u + T < u + rest + arrivedSince q u H) where
+    module _ (T : ℕ) (limits : KeepsLimits box H q u T) (late : u + T < u + rest + arrivedSince q u H) where
       pub none-in-the-way : rest ≡ 0 → ⊥
+      unfolding sumAt term
       none-in-the-way e =
-          let s = ahead-sum box H k conforming q u T limits in
+          let s = ahead-sum envelope box H k conforming q u T limits in
           let c = condition-facts _ _ T (k .conditions-hold T) .eleven-holds in
           omega arith
 
       pub far-in-the-way : (v : Packet) → List·Memᴰ v H → rest < v .units → bound (box .settings) 1 ≤ T → T + box .settings .interval < boundOf v → ⊥
+      unfolding sumAt term
       far-in-the-way v m r l far =
-          let s = ahead-sum box H k conforming q u T limits in
+          let s = ahead-sum envelope box H k conforming q u T limits in
           let f = connection-of v m in
           let b = bound-most (box .settings) (k .settings-ok) (classOf box v) (f .class-least) (f .class-most) in
           let c = condition-facts _ _ T (k .conditions-hold T) .twelve-holds l (omega arith) in
@@ -69,9 +71,10 @@ module _ (box : Box) (H : List Packet) (k : Known box H) (conforming : Conformin
 
       pub near-in-the-way : (v : Packet) → List·Memᴰ v H → rest < v .units → (classOf box v ≡ 1 → ⊥) → boundOf v ≤ T + box .settings .interval →
           ((x : Packet) → List·Memᴰ x H → x .connection ≡ v .connection → q x ≡ true → u ≤ x .arrival → ⊥) → ⊥
+      unfolding sumAt term
       near-in-the-way v m r n near none =
           let f = k .packets-ok v m in
-          let s = ahead-spare box H k conforming q u T limits (v .connection) (connection box (v .connection) .longest)
+          let s = ahead-spare envelope box H k conforming q u T limits (v .connection) (connection box (v .connection) .longest)
           (f .connection-least) (f .connection-most) (term-least T v m n near) none in
           let c = condition-facts _ _ T (k .conditions-hold T) .eleven-holds in
           let p = f .units-most in

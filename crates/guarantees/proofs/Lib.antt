@@ -1,5 +1,6 @@
 -- The theorems about runs.
 pub mod Classes
+pub mod AnyEnvelope
 pub mod WithoutEnd
 pub mod Saying
 pub mod Admitting

@@ -25,7 +25,7 @@ use Rattle.guarantees.proofs.Moves.{Move, refused, joins, accepts, idle
 use Rattle.guarantees.proofs.Records.{charged-mine, charged-other, joined-other, joined-allowance, joined-connection}
 use Rattle.guarantees.proofs.Effects.{connection-member}
 use Rattle.guarantees.proofs.Known.{Known}
-use Rattle.guarantees.proofs.Ahead.{Conforming}
+use Rattle.guarantees.proofs.Ahead.{KeepsEnvelope}
 use Rattle.guarantees.proofs.Stretches.{slots-mine, slots-other, slots-none, descending-on, WithinMay, fitting-keeps, units-count}
 
 -- What is known of a connection with this contract, this record and these slots of accepted packets, at a slot.
@@ -151,7 +151,7 @@ metered-moves box next H H′ G G′ k m (sends go p left e l) = metered-steps b
 metered-moves box next H H′ G G′ k m (departs go p left e l) = metered-steps box H (move-grows {H = H} {G = G} (departs go p left e l)) m
 
 -- So every connection keeps its envelope, in units.
-pub metered-conforms : (box : Box) (H : List Packet) → Known box H → Metered box H → Conforming box H
+pub metered-conforms : (box : Box) (H : List Packet) → Known box H → Metered box H → KeepsEnvelope envelope box H
 unfolding envelope
 metered-conforms box H k m j h l x t =
     let u = units-count H j (connection box j .longest) x (x + t) (λ p n e. subst (λ i. p .units ≤ connection box i .longest) e (k .packets-ok p n .units-most)) in

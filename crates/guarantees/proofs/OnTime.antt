@@ -9,6 +9,7 @@ use native.Mathlib.Omega.{arith}
 use Rattle.laws.specs.Tests.{within-facts}
 use Rattle.meaning.specs.declared.Offered.{Offered}
 use Rattle.meaning.specs.Numbers.{Settings}
+use Rattle.meaning.specs.Envelope.{envelope}
 use Rattle.meaning.specs.Box.{Box, Packet, connection, stands, waiting}
 use Rattle.meaning.specs.Queues.{emptyQueues}
 use Rattle.meaning.specs.Calls.{newBox, withStanding, afterOffer}
@@ -21,7 +22,7 @@ use Rattle.guarantees.proofs.Moves.{Move, refused, joins, accepts, idle
 use Rattle.guarantees.proofs.Effects.{accepted-put, taking, stepped-same, connection-member, InBox, taken-in-box, in-box-before}
 use Rattle.guarantees.proofs.Known.{Known}
 use Rattle.guarantees.proofs.Scheduled.{Scheduled}
-use Rattle.guarantees.proofs.Ahead.{Conforming}
+use Rattle.guarantees.proofs.Ahead.{KeepsEnvelope}
 use Rattle.guarantees.proofs.Deadline.{not-at-bound}
 
 -- No packet in the box is at its bound, and every departure came by then.
@@ -92,7 +93,7 @@ on-time-accepts box H G n units s w k o = record { in-box = inside; departed = d
     inside p (inr l) = in-box-stays box next H G w k o same p (inr (unfold afterOffer in l))
 
 on-time-steps : (box : Box) (H : List Packet) (G : List Departure) → StepGoes box → Grows box (moved box) → Known box H → OnTime box G →
-    Known (moved box) H → Conforming (moved box) H → Scheduled (moved box) H →
+    Known (moved box) H → KeepsEnvelope envelope (moved box) H → Scheduled (moved box) H →
     (p : Packet) → InBox (moved box) p → moved box .counter < dueBy (moved box) (p .connection) (p .arrival)
 on-time-steps box H G go w k o k′ c s p i =
     elim (ℕ-discrete (moved box .counter) (dueBy (moved box) (p .connection) (p .arrival))) [
@@ -110,7 +111,7 @@ on-time-steps box H G go w k o k′ c s p i =
 
 -- Every move keeps it, where the connections keep their envelopes after the move.
 pub on-time-moves : (box next : Box) (H H′ : List Packet) (G G′ : List Departure) → Known box H → OnTime box G →
-    Known next H′ → Conforming next H′ → Scheduled next H′ → Move box H G next H′ G′ → OnTime next G′
+    Known next H′ → KeepsEnvelope envelope next H′ → Scheduled next H′ → Move box H G next H′ G′ → OnTime next G′
 on-time-moves box next H H′ G G′ k o k′ c s refused = o
 on-time-moves box next H H′ G G′ k o k′ c s (joins d n e) =
     let w = move-grows {H = H} {G = G} (joins d n e) in
