@@ -24,3 +24,4 @@ pub mod Order
 pub mod Always
 pub mod Statements
 pub mod Isolated
+pub mod Turning

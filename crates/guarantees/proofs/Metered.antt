@@ -19,20 +19,20 @@ use Rattle.meaning.specs.Step.{moved}
 use Rattle.meaning.proofs.Facts.{ConnectionFacts}
 use Rattle.meaning.proofs.Allowances.{Means, full-means, means-later}
 use Rattle.meaning.proofs.RecordFits.{Descending, numberOf, record-answers, record-charged}
-use Rattle.guarantees.specs.Runs.{Departure, slotsOf}
+use Rattle.guarantees.specs.Runs.{Departure, slotsOf, WithinEnvelope}
 use Rattle.guarantees.proofs.Saying.{OfferSays}
 use Rattle.guarantees.proofs.Moves.{Move, refused, joins, accepts, idles, sends, departs, newPacket, Grows, move-grows}
 use Rattle.guarantees.proofs.Records.{charged-mine, charged-other, joined-other, joined-allowance, joined-connection}
 use Rattle.guarantees.proofs.Effects.{connection-member}
 use Rattle.guarantees.proofs.Known.{Known}
 use Rattle.guarantees.proofs.Ahead.{KeepsEnvelope}
-use Rattle.guarantees.proofs.Stretches.{slots-mine, slots-other, slots-none, descending-on, WithinMay, fitting-keeps, units-count}
+use Rattle.guarantees.proofs.Stretches.{slots-mine, slots-other, slots-none, descending-on, fitting-keeps, units-count}
 
 -- What is known of a connection with this contract, this record and these slots of accepted packets, at a slot.
 pub record Meter (c : Connection) (a : Allowance) (slots : List ℕ) (at : ℕ) : Type 0 where
   pub stands-for : Means c at a (numberOf (c .period) slots)
   pub descends : Descending at slots
-  pub within-may : WithinMay c slots
+  pub within-may : WithinEnvelope c slots
 
 -- That of every connection that stands.
 abbrev pub Metered : Box → List Packet → Type 0

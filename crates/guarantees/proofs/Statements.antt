@@ -13,12 +13,12 @@ use Rattle.laws.specs.Sums.{sumOf}
 use Rattle.laws.specs.SumLaws.{given, given-true, given-false, sum-member, sum-one, sum-zero, sum-found}
 use Rattle.meaning.specs.declared.Offered.{Offered}
 use Rattle.meaning.specs.Numbers.{Settings, settingsAllowed, mostWaiting}
-use Rattle.meaning.specs.Envelope.{mayHave, countIn, fits, conforms}
+use Rattle.meaning.specs.Envelope.{mayHave, fits, conforms}
 use Rattle.meaning.specs.Box.{Box, Packet, Link, free, carries, connection, stands, waiting, onLink, sound}
 use Rattle.meaning.specs.Calls.{newBox, allowance, offerAnswer}
 use Rattle.meaning.proofs.Facts.{ConnectionFacts, sound-facts}
 use Rattle.meaning.proofs.KeepsSound.{new-box-sound}
-use Rattle.guarantees.specs.Runs.{Call, Departure, inOrder, slotsOf, timesAmong, timesDeparted, dueBy, boxOf, acceptedOf, departedOf}
+use Rattle.guarantees.specs.Runs.{Call, Departure, inOrder, slotsOf, WithinEnvelope, timesAmong, timesDeparted, dueBy, boxOf, acceptedOf, departedOf}
 use Rattle.guarantees.proofs.Saying.{OfferSays, offer-says}
 use Rattle.guarantees.proofs.Effects.{InBox, connection-member}
 use Rattle.guarantees.proofs.Metered.{meter-answers}
@@ -47,8 +47,8 @@ module _ (set : Settings) (allowed : settingsAllowed set ≡ true) (calls : List
   every-run-sound = sound-along (newBox set) calls (new-box-sound set allowed)
 
   -- Within the envelope: over every closed stretch from slot x to slot x + t a connection has at most b + floor(t/T) accepted packets.
-  pub within-the-envelope : (n : ℕ) → stands (boxOf set calls) n ≡ true → (x t : ℕ) →
-      countIn (slotsOf n (acceptedOf set calls)) x (x + t) ≤ mayHave (connection (boxOf set calls) n) t
+  pub within-the-envelope : (n : ℕ) → stands (boxOf set calls) n ≡ true →
+      WithinEnvelope (connection (boxOf set calls) n) (slotsOf n (acceptedOf set calls))
   unfolding stands
   within-the-envelope n s x t =
       let w = within-facts 1 n (length (boxOf set calls .standing)) s in

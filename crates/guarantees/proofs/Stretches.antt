@@ -14,7 +14,7 @@ use Rattle.meaning.specs.Numbers.{Connection}
 use Rattle.meaning.specs.Envelope.{mayHave, countIn, fits}
 use Rattle.meaning.specs.Box.{Packet}
 use Rattle.meaning.proofs.RecordFits.{Descending}
-use Rattle.guarantees.specs.Runs.{slotsOf}
+use Rattle.guarantees.specs.Runs.{slotsOf, WithinEnvelope}
 use Rattle.guarantees.proofs.Ahead.{unitsIn}
 
 -- One more packet is the last accepted.
@@ -56,13 +56,9 @@ count-shrinks top at x y (a ∷ slots) d h =
         rw (within-test x a at (w .0) (let o = d .0 in omega arith)) (omega arith)
     go false e i = omega arith
 
--- Over every closed stretch these packets are at most b + floor(t/T).
-abbrev pub WithinMay : Connection → List ℕ → Type 0
-WithinMay c slots = (x t : ℕ) → countIn slots x (x + t) ≤ mayHave c t
-
--- A packet that fits keeps that.
+-- A packet that fits keeps the envelope.
 pub fitting-keeps : (c : Connection) → 1 ≤ c .period → (at : ℕ) (slots : List ℕ) → Descending at slots → fits (mayHave c) slots at ≡ true →
-    WithinMay c slots → WithinMay c (at ∷ slots)
+    WithinEnvelope c slots → WithinEnvelope c (at ∷ slots)
 unfolding fits
 fitting-keeps c period at slots d f w x t = go (within x at (x + t)) refl
   where

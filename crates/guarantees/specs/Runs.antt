@@ -1,6 +1,6 @@
 -- A run: any list of admissions, offers and steps from a new box, refused ones among them, and the history that its own calls and
 -- answers tell.
-use Prim.Native.Nat.{ℕ, _+_}
+use Prim.Native.Nat.{ℕ, _+_, _≤_}
 use mathlib.Core.Bool.{Bool, true, cond, _&&_, _||_, not}
 use mathlib.Core.List.{List, [], _∷_, _++_}
 use lib.Dec.{eqb, ltb}
@@ -11,6 +11,7 @@ use Rattle.meaning.specs.declared.Stepped.{Stepped}
 use Rattle.laws.specs.Sums.{sumOf}
 use Rattle.laws.specs.SumLaws.{given}
 use Rattle.meaning.specs.Numbers.{Settings, Connection, bound}
+use Rattle.meaning.specs.Envelope.{mayHave, countIn}
 use Rattle.meaning.specs.Box.{Box, Packet, connection}
 use Rattle.meaning.specs.Calls.{newBox, admissionAnswer, afterAdmission, offerAnswer, afterOffer}
 use Rattle.meaning.specs.Step.{stepAnswer, afterStep}
@@ -81,6 +82,11 @@ acceptedIn (e ∷ es) = packetTaken (e .slot) (e .call) (e .answer) ++ acceptedI
 unfoldable pub slotsOf : ℕ → List Packet → List ℕ
 slotsOf n [] = []
 slotsOf n (p ∷ ps) = slotsOf n ps ++ cond (eqb (p .connection) n) (p .arrival ∷ []) []
+
+-- Packets accepted at these slots keep a connection's envelope: over every closed stretch from slot x to slot x + t they are at
+-- most b + floor(t/T).
+abbrev pub WithinEnvelope : Connection → List ℕ → Type 0
+WithinEnvelope c slots = (x t : ℕ) → countIn slots x (x + t) ≤ mayHave c t
 
 -- A reported departure: serial, connection, arrival and departure.
 pub record Departure : Type 0 where
