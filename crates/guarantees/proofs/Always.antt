@@ -12,7 +12,7 @@ use Rattle.guarantees.proofs.Known.{Known, known-new, known-moves}
 use Rattle.guarantees.proofs.Scheduled.{Scheduled, scheduled-new, scheduled-moves}
 use Rattle.guarantees.proofs.Metered.{Metered, metered-new, metered-moves, metered-conforms}
 use Rattle.guarantees.proofs.OnTime.{OnTime, on-time-new, on-time-moves}
-use Rattle.guarantees.proofs.Once.{Once, once-new, once-moves, Numbered, numbered-new, numbered-moves}
+use Rattle.guarantees.proofs.Once.{Once, once-new, once-moves, Numbered, numbered-new, numbered-moves, Counted, counted-new, counted-moves}
 use Rattle.guarantees.proofs.Order.{Ordered, ordered-new, ordered-moves}
 
 -- What holds of a box, with H accepted and G departed.
@@ -24,6 +24,7 @@ pub record Always (box : Box) (H : List Packet) (G : List Departure) : Type 0 wh
   pub once : Once box H G
   pub numbered : Numbered box H
   pub ordered : Ordered box G
+  pub counted : Counted box H
 
 -- Every move keeps it.
 always-moves : (box next : Box) (H H′ : List Packet) (G G′ : List Departure) → Always box H G → Move box H G next H′ G′ → Always next H′ G′
@@ -39,6 +40,7 @@ always-moves box next H H′ G G′ a m =
       once = once-moves box next H H′ G G′ (a .once) m;
       numbered = numbered-moves box next H H′ G G′ (a .numbered) m;
       ordered = ordered-moves box next H H′ G G′ (a .known) (a .ordered) m;
+      counted = counted-moves box next H H′ G G′ (a .counted) m;
     }
 
 -- It holds after every run.
@@ -53,6 +55,7 @@ always set e calls =
       once = once-new set;
       numbered = numbered-new set;
       ordered = ordered-new set;
+      counted = counted-new set;
     })
     calls
 

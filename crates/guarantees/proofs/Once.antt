@@ -1,8 +1,8 @@
 -- Every accepted packet is exactly once among waiting, on the link and departed.
-use Prim.Native.Nat.{ℕ, suc, _+_, _≤_}
+use Prim.Native.Nat.{ℕ, zero, suc, _+_, _≤_}
 use mathlib.Core.Path.{_≡_, refl, sym, _∙_, ap}
 use mathlib.Core.Bool.{true, false, true≢false}
-use mathlib.Core.List.{List, [], _∷_, _++_, flatten}
+use mathlib.Core.List.{List, [], _∷_, _++_, flatten, map, map-append}
 use mathlib.Core.Logic.{⊎-elim}
 use lib.Dec.{leb, eqb}
 use borrow.Author.Tests.{eq-eqb, ne-eqb}
@@ -18,7 +18,7 @@ use Rattle.meaning.specs.Queues.{emptyQueues}
 use Rattle.meaning.specs.Calls.{newBox, withStanding, afterOffer}
 use Rattle.meaning.specs.Step.{linkTaken, queuesTaken, linkSent, moved}
 use Rattle.meaning.proofs.QueueLaws.{empty-flatten}
-use Rattle.guarantees.specs.Runs.{Departure, timesAmong}
+use Rattle.guarantees.specs.Runs.{Departure, timesAmong, countFrom}
 use Rattle.guarantees.proofs.Moves.{Move, refused, joins, accepts, idles, sends, departs, newPacket, leaving}
 use Rattle.guarantees.proofs.Effects.{accepted-put, Taking, nothing, takes, carrying, taking, stepped-same}
 
@@ -166,3 +166,30 @@ numbered-moves box next H H′ G G′ o (accepts n units s) = unfold afterOffer 
 numbered-moves box next H H′ G G′ o (idles go e) = unfold moved in o
 numbered-moves box next H H′ G G′ o (sends go p left e l) = unfold moved in o
 numbered-moves box next H H′ G G′ o (departs go p left e l) = unfold moved in o
+
+-- Serials count accepted packets from 1, in the order of acceptance.
+abbrev pub Counted : Box → List Packet → Type 0
+Counted box H = map (λ p. p .serial) H ≡ countFrom 1 (box .accepted)
+
+-- A new box.
+pub counted-new : (set : Settings) → Counted (newBox set) []
+unfolding newBox countFrom
+counted-new set = refl
+
+-- One more number at the end.
+count-last : (k n m : ℕ) → m ≡ k + n → countFrom k n ++ (m ∷ []) ≡ countFrom k (suc n)
+unfolding countFrom
+count-last k zero m e = let f : m ≡ k = omega arith in rw f
+count-last k (suc n) m e = ap (λ (l : List ℕ). k ∷ l) (count-last (suc k) n m (omega arith))
+
+-- Every move keeps it.
+pub counted-moves : (box next : Box) (H H′ : List Packet) (G G′ : List Departure) → Counted box H → Move box H G next H′ G′ → Counted next H′
+counted-moves box next H H′ G G′ c refused = c
+counted-moves box next H H′ G G′ c (joins d n e) = unfold withStanding in c
+counted-moves box next H H′ G G′ c (accepts n units s) =
+    unfold afterOffer in
+    (map-append (λ (p : Packet). p .serial) H (newPacket box n units ∷ []) ∙
+    ap (λ (l : List ℕ). l ++ (suc (box .accepted) ∷ [])) c ∙ count-last 1 (box .accepted) (suc (box .accepted)) (omega arith))
+counted-moves box next H H′ G G′ c (idles go e) = unfold moved in c
+counted-moves box next H H′ G G′ c (sends go p left e l) = unfold moved in c
+counted-moves box next H H′ G G′ c (departs go p left e l) = unfold moved in c

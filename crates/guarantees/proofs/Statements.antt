@@ -2,8 +2,8 @@
 use Prim.Native.Nat.{ℕ, suc, _+_, _≤_, _<_}
 use mathlib.Core.Path.{_≡_, refl, sym, _∙_, ap, subst}
 use mathlib.Core.Bool.{Bool, true, false, _&&_, and-eq-true-iff, true≢false}
-use mathlib.Core.List.{List, List·Memᴰ}
-use mathlib.Core.Logic.{_⊎_, inl, inr, ⊎-elim}
+use mathlib.Core.List.{List, List·Memᴰ, map}
+use mathlib.Core.Logic.{_⊎_, inl, inr, ⊎-elim, _↔_}
 use lib.Dec.{eqb}
 use lib.ListN.{length}
 use borrow.Author.Tests.{leb-true, eqb-true, eq-eqb}
@@ -16,12 +16,13 @@ use Rattle.meaning.specs.Numbers.{Settings, settingsAllowed, mostWaiting}
 use Rattle.meaning.specs.Envelope.{mayHave, fits, conforms}
 use Rattle.meaning.specs.Box.{Box, Packet, Link, free, carries, connection, stands, waiting, onLink, sound}
 use Rattle.meaning.specs.Calls.{newBox, allowance, offerAnswer}
-use Rattle.meaning.proofs.Facts.{ConnectionFacts, sound-facts}
+use Rattle.meaning.proofs.Facts.{sound-facts}
 use Rattle.meaning.proofs.KeepsSound.{new-box-sound}
-use Rattle.guarantees.specs.Runs.{Call, Departure, inOrder, slotsOf, WithinEnvelope, timesAmong, timesDeparted, dueBy, boxOf, acceptedOf, departedOf}
+use Rattle.guarantees.specs.Runs.{Call, Departure, inOrder, slotsOf, WithinEnvelope, timesAmong, timesDeparted, dueBy, boxOf, acceptedOf, departedOf, countFrom}
 use Rattle.guarantees.proofs.Saying.{OfferSays, offer-says}
 use Rattle.guarantees.proofs.Effects.{InBox, connection-member}
 use Rattle.guarantees.proofs.Metered.{meter-answers}
+use Rattle.guarantees.proofs.OnTime.{in-box-known}
 use Rattle.guarantees.proofs.Once.{ofPackets, ofDepartures}
 use Rattle.guarantees.proofs.Always.{Always, always, sound-along}
 
@@ -40,6 +41,12 @@ marks-self : (s c a : ℕ) → marks s c a s c a ≡ true
 unfolding marks
 marks-self s c a =
     and-eq-true-iff (eqb s s) (eqb c c && eqb a a) .1 (eq-eqb s s refl, and-eq-true-iff (eqb c c) (eqb a a) .1 (eq-eqb c c refl, eq-eqb a a refl))
+
+-- A sound box gives 9 to an offer of permitted length whose connection has no credit left.
+nine-given : (box : Box) (n units : ℕ) → sound box ≡ true → stands box n ≡ true → within 1 units (connection box n .longest) ≡ true →
+    conforms (connection box n) (allowance box n) (box .counter) ≡ false → offerAnswer box n units ≡ Offered.NotFitting
+unfolding offerAnswer
+nine-given box n units a b c d = rw (a, b, c, d)
 
 module _ (set : Settings) (allowed : settingsAllowed set ≡ true) (calls : List Call) where
   -- "A new box is sound, and every call on a sound state leaves a sound one": so is the box after every run.
@@ -62,6 +69,19 @@ module _ (set : Settings) (allowed : settingsAllowed set ≡ true) (calls : List
       let f = always set allowed calls .known .packets-ok p m in
       (within-test 1 _ _ (f .connection-least) (f .connection-most), within-test 1 _ _ (f .units-least) (f .units-most))
 
+  -- In a run the allowance record of a connection answers exactly what the definition over stretches answers.
+  pub record-answers-stretches : (n : ℕ) → stands (boxOf set calls) n ≡ true →
+      conforms (connection (boxOf set calls) n) (allowance (boxOf set calls) n) (boxOf set calls .counter) ≡
+      fits (mayHave (connection (boxOf set calls) n)) (slotsOf n (acceptedOf set calls)) (boxOf set calls .counter)
+  unfolding stands
+  record-answers-stretches n s =
+      let box = boxOf set calls in
+      let a = always set allowed calls in
+      let r = within-facts 1 n (length (boxOf set calls .standing)) s in
+      let c = a .known .connections-ok _ (connection-member box n (r .0) (r .1)) in
+      meter-answers (connection box n) (allowance box n) (slotsOf n (acceptedOf set calls)) (box .counter) (c .period-least) (c .burst-least)
+      (a .metered n (r .0) (r .1))
+
   -- Turned away: an offer of permitted length that fits is refused only with 10, and only when 1,024 packets wait.
   pub turned-away-only-when-full : (n units : ℕ) → stands (boxOf set calls) n ≡ true →
       within 1 units (connection (boxOf set calls) n .longest) ≡ true →
@@ -73,17 +93,8 @@ module _ (set : Settings) (allowed : settingsAllowed set ≡ true) (calls : List
       box : Box
       box = boxOf set calls
 
-      a : Always box (acceptedOf set calls) (departedOf set calls)
-      a = always set allowed calls
-
-      r : (1 ≤ n) × (n ≤ length (box .standing))
-      r = within-facts 1 n (length (box .standing)) (unfold stands in s)
-
-      c : ConnectionFacts (box .settings) (connection box n)
-      c = a .known .connections-ok _ (connection-member box n (r .0) (r .1))
-
       conforming : conforms (connection box n) (allowance box n) (box .counter) ≡ true
-      conforming = meter-answers (connection box n) (allowance box n) (slotsOf n (acceptedOf set calls)) (box .counter) (c .period-least) (c .burst-least) (a .metered n (r .0) (r .1)) ∙ f
+      conforming = record-answers-stretches n s ∙ f
 
       go : (o : Offered) → offerAnswer box n units ≡ o → OfferSays box n units o →
           (o ≡ Offered.Accepted (suc (box .accepted))) ⊎ ((o ≡ Offered.StoreFull) × (length (waiting box) ≡ mostWaiting))
@@ -97,6 +108,24 @@ module _ (set : Settings) (allowed : settingsAllowed set ≡ true) (calls : List
           inr (refl, omega arith)
       go (Offered.Accepted serial) e says = inl (ap Offered.Accepted (says .5))
 
+  -- Answer 9 is given to an offer of permitted length exactly when the packet does not fit the envelope.
+  pub nine-exactly-when-it-does-not-fit : (n units : ℕ) → stands (boxOf set calls) n ≡ true →
+      within 1 units (connection (boxOf set calls) n .longest) ≡ true →
+      (offerAnswer (boxOf set calls) n units ≡ Offered.NotFitting) ↔
+      (fits (mayHave (connection (boxOf set calls) n)) (slotsOf n (acceptedOf set calls)) (boxOf set calls .counter) ≡ false)
+  nine-exactly-when-it-does-not-fit n units s l = (forth, back)
+    where
+      box : Box
+      box = boxOf set calls
+
+      forth : offerAnswer box n units ≡ Offered.NotFitting → fits (mayHave (connection box n)) (slotsOf n (acceptedOf set calls)) (box .counter) ≡ false
+      forth e =
+          let says : OfferSays box n units Offered.NotFitting = rw e at (offer-says box n units) in
+          sym (record-answers-stretches n s) ∙ says .3
+
+      back : fits (mayHave (connection box n)) (slotsOf n (acceptedOf set calls)) (box .counter) ≡ false → offerAnswer box n units ≡ Offered.NotFitting
+      back f = nine-given box n units every-run-sound s l (record-answers-stretches n s ∙ f)
+
   -- At most once: every accepted packet is exactly once among waiting, on the link and departed.
   pub exactly-once : (p : Packet) → List·Memᴰ p (acceptedOf set calls) →
       timesAmong (p .serial) (waiting (boxOf set calls)) + timesAmong (p .serial) (onLink (boxOf set calls .link)) +
@@ -109,6 +138,14 @@ module _ (set : Settings) (allowed : settingsAllowed set ≡ true) (calls : List
       let f = a .known .packets-ok p m in
       let g = given-true 1 (within-test 1 (p .serial) (boxOf set calls .accepted) (f .serial-least) (f .serial-most)) in
       omega arith
+
+  -- Serials count accepted packets from 1, in the order of acceptance.
+  pub serials-count-from-one : map (λ p. p .serial) (acceptedOf set calls) ≡ countFrom 1 (boxOf set calls .accepted)
+  serials-count-from-one = always set allowed calls .counted
+
+  -- Every packet in the box was accepted in the run.
+  pub in-the-box-was-accepted : (p : Packet) → InBox (boxOf set calls) p → List·Memᴰ p (acceptedOf set calls)
+  in-the-box-was-accepted = in-box-known (boxOf set calls) (acceptedOf set calls) (always set allowed calls .known)
 
   -- In order: departures of one connection come in the order of acceptance.
   pub departures-in-order : inOrder (departedOf set calls) ≡ true

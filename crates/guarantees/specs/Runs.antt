@@ -1,6 +1,6 @@
 -- A run: any list of admissions, offers and steps from a new box, refused ones among them, and the history that its own calls and
 -- answers tell.
-use Prim.Native.Nat.{ℕ, _+_, _≤_}
+use Prim.Native.Nat.{ℕ, zero, suc, _+_, _≤_}
 use mathlib.Core.Bool.{Bool, true, cond, _&&_, _||_, not}
 use mathlib.Core.List.{List, [], _∷_, _++_}
 use lib.Dec.{eqb, ltb}
@@ -120,6 +120,11 @@ departedIn (e ∷ es) = packetLeft (e .answer) ++ departedIn es
 unfoldable pub inOrder : List Departure → Bool
 inOrder [] = true
 inOrder (g ∷ gs) = every (λ h. not (eqb (g .connection) (h .connection)) || ltb (g .serial) (h .serial)) gs && inOrder gs
+
+-- The n numbers from k on.
+unfoldable pub countFrom : ℕ → ℕ → List ℕ
+countFrom k zero = []
+countFrom k (suc n) = k ∷ countFrom (suc k) n
 
 -- How often this serial is among these packets.
 unfoldable pub timesAmong : ℕ → List Packet → ℕ
