@@ -50,6 +50,7 @@ module _ (E : Connection → ℕ → ℕ) (box : Box) (H : List Packet) (k : Kno
   brings : Packet → ℕ
   brings p = given (q p && leb u (p .arrival)) (p .units)
 
+  -- A packet of the connection that is counted keeps what its counting asks.
   counted : (j : ℕ) (x : Packet) (b : Bool) → (eqb (x .connection) j ≡ true → q x ≡ true → u ≤ x .arrival → b ≡ true) →
       given (eqb (x .connection) j) (brings x) ≤ given (eqb (x .connection) j && b) (x .units)
   unfolding brings
@@ -114,12 +115,14 @@ module _ (E : Connection → ℕ → ℕ) (box : Box) (H : List Packet) (k : Kno
             (λ (l : (classOf box x ≡ 1 → ⊥) × (x .arrival + bound (box .settings) (classOf box x) ≤ u + (T + box .settings .interval))). rw n at (l .1))
             (limits x m f g))
 
+    -- What arrived, connection by connection.
     by-groups : arrivedSince q u H ≡ across (partOf (λ p. p .connection) brings H) 1 (length (box .standing))
     unfolding arrivedSince brings
     by-groups =
         sum-groups (λ p. p .connection) brings H 1 (length (box .standing))
         (λ x m. let f = k .packets-ok x m in (f .connection-least, let l = f .connection-most in omega arith))
 
+    -- Each part is at most the term of its connection in the list of those that stand.
     each : (i : ℕ) → i < length (connections box) → partOf (λ p. p .connection) brings H (1 + i) ≤ termOf E (box .settings) T (getD (connections box) i noConnection)
     unfolding connection
     each i b =

@@ -47,6 +47,7 @@ module _ (E : Connection → ℕ → ℕ) (gain : Connection → ℕ) (set : Set
   -- A set of connections with bounds up to dP, each with an envelope that has the laws.
   module _ (cs : List Connection) (reach : (c : Connection) → List·Memᴰ c cs → bound set (c .class) ≤ largestBound set)
       (laws : (c : Connection) → List·Memᴰ c cs → IsEnvelope (E c) (c .longest) (set .cycle) (gain c)) where
+    -- From dP on the sum grows by the gains over each M.
     sums-repeat : (t : ℕ) → largestBound set ≤ t → sumOf (termOf E set (t + set .cycle)) cs ≡ sumOf (termOf E set t) cs + sumOf gain cs
     sums-repeat t h =
         sum-same (termOf E set (t + set .cycle)) (λ c. termOf E set t c + gain c) cs

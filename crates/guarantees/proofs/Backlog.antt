@@ -71,6 +71,7 @@ module _ (q : Packet → Bool) where
       let f : Packet → ℕ = λ p. given (q p && leb u (p .arrival)) (p .units) in
       sum-append f H (p ∷ []) ∙ ap (λ n. sumOf f H + n) (sum-one f p)
 
+  -- A packet in the way stays one when more is accepted.
   way-more : (u rest : ℕ) (H : List Packet) (p : Packet) → (rest ≡ 0) ⊎ InTheWay q u rest H → (rest ≡ 0) ⊎ InTheWay q u rest (H ++ (p ∷ []))
   way-more u rest H p (inl e) = inl e
   way-more u rest H p (inr v) =

@@ -33,6 +33,7 @@ module _ (box : Box) (H : List Packet) (k : Known box H) (conforming : KeepsEnve
   abbrev d : Packet → ℕ
   d x = bound (box .settings) (classOf box x)
 
+  -- p arrived in that interval.
   starts : (start ≤ p .arrival) × (p .arrival < start + D)
   unfolding start
   starts = interval-of (box .settings .interval) (k .settings-ok .interval-least) (p .arrival)

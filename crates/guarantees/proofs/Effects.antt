@@ -56,6 +56,7 @@ pub data Taking (box : Box) : Link → List Packet → Type 0 where
       Taking box (carries p (p .units)) W
   carrying : (p : Packet) (left : ℕ) → box .link ≡ carries p left → Taking box (carries p left) (waiting box)
 
+-- A step of a sound box finds its packet so.
 pub taking : (box : Box) → sound box ≡ true →
     Taking box (linkTaken (box .link) (box .queues)) (flatten (queuesTaken (box .link) (box .queues)))
 taking box s = go (box .link) refl

@@ -51,6 +51,7 @@ module _ (box : Box) (H : List Packet) (k : Known box H) (conforming : KeepsEnve
     -- The printed test, at a T whose limits the packets ahead keep: with nothing in the way, with a packet in the way whose bound
     -- exceeds T + D, and with one whose bound does not and whose connection brings in nothing.
     module _ (T : ℕ) (limits : KeepsLimits box H q u T) (late : u + T < u + rest + arrivedSince q u H) where
+      -- (11) at T.
       pub none-in-the-way : rest ≡ 0 → ⊥
       unfolding sumAt term
       none-in-the-way e =
@@ -58,6 +59,7 @@ module _ (box : Box) (H : List Packet) (k : Known box H) (conforming : KeepsEnve
           let c = condition-facts _ _ T (k .conditions-hold T) .eleven-holds in
           omega arith
 
+      -- (12) at T.
       pub far-in-the-way : (v : Packet) → List·Memᴰ v H → rest < v .units → bound (box .settings) 1 ≤ T → T + box .settings .interval < boundOf v → ⊥
       unfolding sumAt term
       far-in-the-way v m r l far =
@@ -69,6 +71,7 @@ module _ (box : Box) (H : List Packet) (k : Known box H) (conforming : KeepsEnve
           let p = k .packets-ok v m .units-most in
           omega arith
 
+      -- (11) at T, with s to spare.
       pub near-in-the-way : (v : Packet) → List·Memᴰ v H → rest < v .units → (classOf box v ≡ 1 → ⊥) → boundOf v ≤ T + box .settings .interval →
           ((x : Packet) → List·Memᴰ x H → x .connection ≡ v .connection → q x ≡ true → u ≤ x .arrival → ⊥) → ⊥
       unfolding sumAt term

@@ -88,6 +88,7 @@ module _ (n : ℕ) (h : 1 ≤ n) where
   unfolding admissionAnswer admittedBy view withNewcomer
   admitted-same box c s = rw (s, connections-length box)
 
+  -- The view after an admission is told by its answer.
   view-admitted : (box : Box) (c : Connection) (a : Admitted) → view n (afterAdmission box c a) ≡ viewAdmitted n (view n box) c a
   unfolding afterAdmission viewAdmitted view
   view-admitted box c (Admitted.Taken k) =
@@ -165,6 +166,7 @@ module _ (n : ℕ) (h : 1 ≤ n) where
     abbrev After : View → Type 0
     After v = told n es ≡ replay (box .settings) n v (asked n es)
 
+    -- An offer of the connection itself.
     told-own : (units : ℕ) → isTen (toOffer (offerAnswer box n units)) ≡ false → After (view n (afterOffer box n units (offerAnswer box n units))) →
         serialAside (offerAnswer box n units) ∷ told n es ≡ replay (box .settings) n (view n box) (offering (box .counter) units ∷ asked n es)
     unfolding replay
@@ -175,6 +177,7 @@ module _ (n : ℕ) (h : 1 ≤ n) where
         let rest = i ∙ ap (λ v. replay (box .settings) n v (asked n es)) (v ∙ ap (viewOffered n (view n box) (box .counter)) a) in
         λ k. a k ∷ rest k
 
+    -- Any offer.
     told-offer : (m units : ℕ) → isTen (toOffer (offerAnswer box m units)) ≡ false → After (view n (afterOffer box m units (offerAnswer box m units))) →
         answerTo n (offer m units) (toOffer (offerAnswer box m units)) ++ told n es ≡
         replay (box .settings) n (view n box) (askOf n (box .counter) (offer m units) ++ asked n es)
@@ -189,6 +192,7 @@ module _ (n : ℕ) (h : 1 ≤ n) where
               (view-other box m units e (offerAnswer box m units) (offer-says box m units)))
         ]
 
+    -- Any call.
     told-call : (c : Call) → isTen (reply box c) ≡ false → After (view n (after box c)) →
         answerTo n c (reply box c) ++ told n es ≡ replay (box .settings) n (view n box) (askOf n (box .counter) c ++ asked n es)
     unfolding reply after

@@ -57,6 +57,7 @@ known-new set e =
       link-known = λ p left l. absurd (let z : _≡_ {A = ℕ} 0 1 = cc in omega arith);
     }
 
+-- More history changes nothing of the packet on the link.
 on-link-more : {slot : ℕ} {H : List Packet} {p : Packet} {left : ℕ} (x : Packet) → OnLink slot H p left → OnLink slot (H ++ (x ∷ [])) p left
 on-link-more x o =
     record { accepted = Memᴰ·append-left (x ∷ []) (o .accepted); earlier = o .earlier; some-left = o .some-left; some-sent = o .some-sent }

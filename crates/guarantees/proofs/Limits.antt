@@ -19,6 +19,7 @@ unfoldable pub upTo : Box → Packet → Packet → Bool
 upTo box p x = ltb (rankIn box x) (rankIn box p) || eqb (rankIn box x) (rankIn box p) && leb (x .serial) (p .serial)
 
 module _ (box : Box) (p x : Packet) where
+  -- What the test says.
   pub up-to-facts : upTo box p x ≡ true → (rankIn box x < rankIn box p) ⊎ ((rankIn box x ≡ rankIn box p) × (x .serial ≤ p .serial))
   unfolding upTo
   up-to-facts e =
@@ -27,6 +28,7 @@ module _ (box : Box) (p x : Packet) where
       inr (eqb-true (rankIn box x) (rankIn box p) (b .0), leb-true (x .serial) (p .serial) (b .1)))
       (or-cases (ltb (rankIn box x) (rankIn box p)) (eqb (rankIn box x) (rankIn box p) && leb (x .serial) (p .serial)) e)
 
+  -- And back.
   pub up-to-test : (rankIn box x < rankIn box p) ⊎ ((rankIn box x ≡ rankIn box p) × (x .serial ≤ p .serial)) → upTo box p x ≡ true
   unfolding upTo
   up-to-test (inl l) = or-left _ _ (lt-ltb (rankIn box x) (rankIn box p) l)

@@ -79,6 +79,7 @@ pub metered-new : (set : Settings) → Metered (newBox set) []
 unfolding newBox
 metered-new set j h l = absurd (omega arith)
 
+-- A connection joins with a fresh record.
 metered-joins : (box : Box) (H : List Packet) (c : Connection) → Grows box (withStanding box (box .standing ++ (record { asked = c; allowance = full c } ∷ []))) →
     Known box H → Metered box H → Metered (withStanding box (box .standing ++ (record { asked = c; allowance = full c } ∷ []))) H
 metered-joins box H c g k m j h l =
@@ -103,6 +104,7 @@ metered-joins box H c g k m j h l =
     count o l = let s : length (box .standing ++ (row ∷ [])) ≡ length (box .standing) + 1 = length-append (box .standing) (row ∷ []) in
         let t : j ≤ length (box .standing ++ (row ∷ [])) = unfold withStanding in l in omega arith
 
+-- A packet is accepted: its connection is charged, the others are not.
 metered-accepts : (box : Box) (H : List Packet) (n units : ℕ) → OfferSays box n units (Offered.Accepted (suc (box .accepted))) →
     Grows box (afterOffer box n units (Offered.Accepted (suc (box .accepted)))) → Known box H → Metered box H →
     Metered (afterOffer box n units (Offered.Accepted (suc (box .accepted)))) (H ++ (newPacket box n units ∷ []))
@@ -136,6 +138,7 @@ metered-accepts box H n units s g k m j h l =
         rw (g .connection-same n (r .0) (r .1), charged-mine box n units (r .0) (r .1), slots-mine n H p refl)
         (unfold afterOffer in meter-charged (connection box n) (allowance box n) (slotsOf n H) (box .counter) (c .period-least) (c .burst-least) (m n (r .0) (r .1)) (s .3))
 
+-- A step charges nothing.
 metered-steps : (box : Box) (H : List Packet) → Grows box (moved box) → Metered box H → Metered (moved box) H
 metered-steps box H g m j h l =
     let o : j ≤ length (box .standing) = unfold moved in l in

@@ -41,6 +41,7 @@ pub data Move (box : Box) (H : List Packet) (G : List Departure) : Box → List 
       Move box H G (moved box) H (G ++ (leaving box p ∷ []))
 
 module _ (box : Box) (H : List Packet) (G : List Departure) where
+  -- An admission joins or is refused.
   admission-moves : (c : Connection) (a : Admitted) → admissionAnswer box c ≡ a → Move box H G (afterAdmission box c a) (H ++ []) (G ++ [])
   unfolding afterAdmission
   admission-moves c (Admitted.Taken n) e = rw (append-nil H, append-nil G) (joins c n e)
@@ -50,6 +51,7 @@ module _ (box : Box) (H : List Packet) (G : List Departure) where
   admission-moves c Admitted.RateExceeded e = rw (append-nil H, append-nil G) refused
   admission-moves c (Admitted.ConditionFails t) e = rw (append-nil H, append-nil G) refused
 
+  -- An offer is accepted or refused.
   offer-moves : (n units : ℕ) (a : Offered) → OfferSays box n units a →
       Move box H G (afterOffer box n units a) (H ++ offerTaken (box .counter) n units a) (G ++ [])
   unfolding offerTaken
@@ -61,6 +63,7 @@ module _ (box : Box) (H : List Packet) (G : List Departure) where
   offer-moves n units Offered.NotFitting s = unfold afterOffer in rw (append-nil H, append-nil G) refused
   offer-moves n units Offered.StoreFull s = unfold afterOffer in rw (append-nil H, append-nil G) refused
 
+  -- A step idles, sends, reports a departure or is refused.
   step-moves : (a : Stepped) → StepSays box a → Move box H G (afterStep box a) (H ++ []) (G ++ stepLeft a)
   unfolding afterStep stepLeft
   step-moves Stepped.Idle s = rw (append-nil H, append-nil G) (idles (s .0) (s .1))
@@ -106,6 +109,7 @@ charged-same box n =
     map-set-same (λ s. s .asked) (box .standing) (n - 1) _ (record { asked = noConnection; allowance = full noConnection })
     (lib.ListN.List·getD-map (λ (s : Standing). s .asked) (box .standing) (n - 1) (record { asked = noConnection; allowance = full noConnection }))
 
+-- A step takes nothing of this back.
 step-grows : (box : Box) → Grows box (moved box)
 unfolding moved connection connections
 step-grows box =

@@ -65,6 +65,7 @@ in-box-stays box next H G w k o c p i =
     let f = k .packets-ok p (in-box-known box H k p i) in
     rw (due-same box next w (p .connection) (p .arrival) (f .connection-least) (f .connection-most), c) (o .in-box p i)
 
+-- An accepted packet has its whole bound ahead.
 on-time-accepts : (box : Box) (H : List Packet) (G : List Departure) (n units : ℕ) → OfferSays box n units (Offered.Accepted (suc (box .accepted))) →
     Grows box (afterOffer box n units (Offered.Accepted (suc (box .accepted)))) → Known box H → OnTime box G →
     OnTime (afterOffer box n units (Offered.Accepted (suc (box .accepted)))) G
@@ -92,6 +93,7 @@ on-time-accepts box H G n units s w k o = record { in-box = inside; departed = d
         (accepted-put box (s .0) n units (s .1) .parts p m)
     inside p (inr l) = in-box-stays box next H G w k o same p (inr (unfold afterOffer in l))
 
+-- After a step no packet in the box is at its bound: it was before its bound, and at it it would not be there.
 on-time-steps : (box : Box) (H : List Packet) (G : List Departure) → StepGoes box → Grows box (moved box) → Known box H → OnTime box G →
     Known (moved box) H → KeepsEnvelope envelope (moved box) H → Scheduled (moved box) H →
     (p : Packet) → InBox (moved box) p → moved box .counter < dueBy (moved box) (p .connection) (p .arrival)

@@ -43,16 +43,19 @@ pub once-new : (set : Settings) → Once (newBox set) [] []
 unfolding newBox waiting emptyQueues ofPackets ofDepartures onLink sumOf
 once-new set f = rw empty-flatten
 
+-- A number that is not in the range fails its test.
 within-out : (low x high : ℕ) → (low ≤ x → x ≤ high → ⊥) → within low x high ≡ false
 within-out low x high h =
     ⊎-elim (λ (e : within low x high ≡ true). absurd (let w = within-facts low x high e in h (w .0) (w .1))) (λ e. e) (bool-cases (within low x high))
 
+-- A new box has no serial.
 pub numbered-new : (set : Settings) → Numbered (newBox set) []
 unfolding newBox sumOf timesAmong
 numbered-new set n = sym (given-false 1 (within-out 1 n 0 (λ a b. omega arith)))
 
 -- A step: what is taken goes from those that wait to the link, and from there to the departed with its last unit.
 module _ (box : Box) (f : ℕ → ℕ → ℕ → ℕ) where
+  -- What is taken leaves those that wait for the link.
   taken-once : {l : Link} {W : List Packet} → Taking box l W →
       ofPackets f (waiting box) + ofPackets f (onLink (box .link)) ≡ ofPackets f W + ofPackets f (onLink l)
   unfolding ofPackets onLink
@@ -64,10 +67,12 @@ module _ (box : Box) (f : ℕ → ℕ → ℕ → ℕ) where
       rw a (unfold sumOf in omega arith)
   taken-once (carrying p left e) = let a : onLink (box .link) ≡ p ∷ [] = ap onLink e in rw a
 
+  -- A unit that is not the last leaves the packet on the link.
   sent-once : (p : Packet) (left : ℕ) → leb left 1 ≡ false → ofPackets f (onLink (linkSent (carries p left))) ≡ ofPackets f (onLink (carries p left))
   unfolding linkSent onLink
   sent-once p left e = rw e
 
+  -- With the last unit the link is free.
   left-once : (p : Packet) (left : ℕ) → leb left 1 ≡ true → ofPackets f (onLink (linkSent (carries p left))) ≡ 0
   unfolding linkSent onLink ofPackets sumOf
   left-once p left e = rw e
@@ -126,6 +131,7 @@ once-moves box next H H′ G G′ o (departs go p left e l) = λ f.
     let a = ap (λ (l : Link). ofPackets f (onLink l)) m in
     omega arith
 
+-- One more packet has the next serial.
 numbered-accepts : (box : Box) (H : List Packet) (p : Packet) → p .serial ≡ suc (box .accepted) → Numbered box H → (n : ℕ) →
     timesAmong n (H ++ (p ∷ [])) ≡ given (within 1 n (suc (box .accepted))) 1
 unfolding timesAmong

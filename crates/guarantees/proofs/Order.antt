@@ -74,6 +74,7 @@ ordered-new set =
       link-first = λ p left l. absurd (let z : _≡_ {A = ℕ} 0 1 = cc in omega arith);
     }
 
+-- An accepted packet comes after all of its connection.
 ordered-accepts : (box : Box) (H : List Packet) (G : List Departure) (n units : ℕ) → OfferSays box n units (Offered.Accepted (suc (box .accepted))) →
     Known box H → Ordered box G → Ordered (afterOffer box n units (Offered.Accepted (suc (box .accepted)))) G
 ordered-accepts box H G n units s k o =

@@ -19,6 +19,7 @@ charged-mine box n units h l =
     rw (map-set (λ (s : Standing). s .allowance) (box .standing) (n - 1) _)
     (getD-set-same (map (λ (s : Standing). s .allowance) (box .standing)) (n - 1) _ (full noConnection) (rw length-map (omega arith)))
 
+-- The records of the others stay.
 pub charged-other : (box : Box) (n units j : ℕ) → 1 ≤ n → 1 ≤ j → (n ≡ j → ⊥) →
     allowance (afterOffer box n units (Offered.Accepted (suc (box .accepted)))) j ≡ allowance box j
 unfolding allowance afterOffer chargedAt
@@ -34,12 +35,14 @@ joined-other box row j h l =
     rw map-append (List·getD-append (map (λ (s : Standing). s .allowance) (box .standing)) (row .allowance ∷ []) (full noConnection) (j - 1)
     (rw length-map (omega arith)))
 
+-- The newcomer's record is fresh.
 pub joined-allowance : (box : Box) (row : Standing) → allowance (withStanding box (box .standing ++ (row ∷ []))) (suc (length (box .standing))) ≡ row .allowance
 unfolding allowance withStanding
 joined-allowance box row =
     let e : suc (length (box .standing)) - 1 ≡ length (map (λ (s : Standing). s .allowance) (box .standing)) = rw length-map (omega arith) in
     rw (map-append, e) (last-at (map (λ (s : Standing). s .allowance) (box .standing)) (row .allowance) (full noConnection))
 
+-- The newcomer's contract is what it asked for.
 pub joined-connection : (box : Box) (row : Standing) → connection (withStanding box (box .standing ++ (row ∷ []))) (suc (length (box .standing))) ≡ row .asked
 unfolding connection connections withStanding
 joined-connection box row =

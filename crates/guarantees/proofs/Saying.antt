@@ -34,6 +34,7 @@ AdmissionSays box c (Admitted.Taken n) =
     (rateHolds (box .settings) (withNewcomer box c) ≡ true) × (finiteSearch (box .settings) (withNewcomer box c) ≡ holds) ×
     (n ≡ suc (length (box .standing)))
 
+-- It does say so.
 pub admission-says : (box : Box) (c : Connection) → AdmissionSays box c (admissionAnswer box c)
 unfolding admissionAnswer searchAnswer
 admission-says box c =
@@ -69,6 +70,7 @@ OfferSays box n units (Offered.Accepted serial) =
     (conforms (connection box n) (allowance box n) (box .counter) ≡ true) × (leb mostWaiting (length (waiting box)) ≡ false) ×
     (serial ≡ suc (box .accepted))
 
+-- It does say so.
 pub offer-says : (box : Box) (n units : ℕ) → OfferSays box n units (offerAnswer box n units)
 unfolding offerAnswer
 offer-says box n units =
@@ -106,6 +108,7 @@ StepSays box (Stepped.Departed serial connection arrival departure) =
     StepGoes box × (p : Packet) × (units : ℕ) × (linkTaken (box .link) (box .queues) ≡ carries p units) × (leb units 1 ≡ true) ×
     (serial ≡ p .serial) × (connection ≡ p .connection) × (arrival ≡ p .arrival) × (departure ≡ suc (box .counter))
 
+-- It does say so.
 pub step-says : (box : Box) → StepSays box (stepAnswer box)
 unfolding stepAnswer sentAnswer
 step-says box =

@@ -30,6 +30,7 @@ use Rattle.guarantees.proofs.Always.{Always, always, sound-along}
 marks : ℕ → ℕ → ℕ → ℕ → ℕ → ℕ → Bool
 marks s c a serial connection arrival = eqb serial s && (eqb connection c && eqb arrival a)
 
+-- It has these three numbers.
 marks-facts : (s c a serial connection arrival : ℕ) → marks s c a serial connection arrival ≡ true → (serial ≡ s) × (connection ≡ c) × (arrival ≡ a)
 unfolding marks
 marks-facts s c a serial connection arrival e =
@@ -37,6 +38,7 @@ marks-facts s c a serial connection arrival e =
     let q = and-eq-true-iff (eqb connection c) (eqb arrival a) .0 (p .1) in
     (eqb-true _ _ (p .0), eqb-true _ _ (q .0), eqb-true _ _ (q .1))
 
+-- A packet has its own.
 marks-self : (s c a : ℕ) → marks s c a s c a ≡ true
 unfolding marks
 marks-self s c a =

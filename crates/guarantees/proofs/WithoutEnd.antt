@@ -39,6 +39,7 @@ pub record ConditionFacts (set : Settings) (cs : List Connection) (t : ℕ) : Ty
   pub eleven-holds : sumAt set cs t ≤ t
   pub twelve-holds : bound set 1 ≤ t → t + set .interval < largestBound set → sumAt set cs t + inTheWay set cs t ≤ t
 
+-- What the tests of (11) and (12) say.
 pub condition-facts : (set : Settings) (cs : List Connection) (t : ℕ) → conditionAt set cs t ≡ true → ConditionFacts set cs t
 unfolding conditionAt eleven twelve twelveRange
 condition-facts set cs t e =
@@ -53,6 +54,7 @@ condition-facts set cs t e =
     in-range true false p q e = absurd (true≢false (sym q))
     in-range false b p q e = absurd (true≢false (sym p))
 
+-- And back.
 pub condition-test : (set : Settings) (cs : List Connection) (t : ℕ) → ConditionFacts set cs t → conditionAt set cs t ≡ true
 unfolding conditionAt eleven twelve twelveRange
 condition-test set cs t f =
@@ -69,9 +71,11 @@ condition-test set cs t f =
 
 -- A set of connections in a box that keep the table of numbers, with the envelopes of (31).
 module _ (set : Settings) (sf : SettingsFacts set) (cs : List Connection) (facts : (c : Connection) → List·Memᴰ c cs → ConnectionFacts set c) where
+  -- Every bound is at most dP.
   reach : (c : Connection) → List·Memᴰ c cs → bound set (c .class) ≤ largestBound set
   reach c m = let f = facts c m in bound-most set sf (c .class) (f .class-least) (f .class-most)
 
+  -- Every envelope has the laws.
   laws : (c : Connection) → List·Memᴰ c cs → IsEnvelope (envelope c) (c .longest) (set .cycle) (gain set c)
   laws c m = envelope-laws set c (facts c m)
 

@@ -138,12 +138,14 @@ timesDeparted n gs = sumOf (λ g. given (eqb (g .serial) n) 1) gs
 unfoldable pub dueBy : Box → ℕ → ℕ → ℕ
 dueBy box n arrival = arrival + bound (box .settings) (connection box n .class)
 
--- A run from a new box: the box after it, the packets that it accepted, and those that departed.
+-- The box after a run from a new box.
 abbrev pub boxOf : Settings → List Call → Box
 boxOf set calls = boxAfter (newBox set) calls
 
+-- The packets that it accepted.
 abbrev pub acceptedOf : Settings → List Call → List Packet
 acceptedOf set calls = acceptedIn (trace (newBox set) calls)
 
+-- The departures that it reported.
 abbrev pub departedOf : Settings → List Call → List Departure
 departedOf set calls = departedIn (trace (newBox set) calls)

@@ -17,9 +17,11 @@ pub record Same {A : Type 0} (l m : List A) : Type 0 where
   pub parts : (x : A) → List·Memᴰ x m → List·Memᴰ x l
 
 module _ {A : Type 0} where
+  -- a list has its own elements
   pub same-refl : (l : List A) → Same l l
   same-refl l = record { sums = λ f. refl; parts = λ x m. m }
 
+  -- one more list at the end
   pub sum-flatten-last : (f : A → ℕ) (qs : List (List A)) (q : List A) → sumOf f (flatten (qs ++ (q ∷ []))) ≡ sumOf f (flatten qs) + sumOf f q
   unfolding flatten sumOf
   sum-flatten-last f [] q = sum-append f q [] ∙ (omega arith)

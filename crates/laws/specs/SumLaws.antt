@@ -11,20 +11,18 @@ unfoldable pub given : Bool → ℕ → ℕ
 given true n = n
 given false n = 0
 
+-- where it passes
 pub given-true : {b : Bool} (n : ℕ) → b ≡ true → given b n ≡ n
 unfolding given
 given-true n e = rw e
 
+-- where it fails
 pub given-false : {b : Bool} (n : ℕ) → b ≡ false → given b n ≡ 0
 unfolding given
 given-false n e = rw e
 
-pub given-most : (b : Bool) (n : ℕ) → given b n ≤ n
-unfolding given
-given-most true n = omega arith
-given-most false n = omega arith
-
 module _ {A : Type 0} where
+  -- equal parts, equal sums
   pub sum-same : (f g : A → ℕ) (l : List A) → ((a : A) → List·Memᴰ a l → f a ≡ g a) → sumOf f l ≡ sumOf g l
   unfolding sumOf
   sum-same f g [] h = refl
@@ -33,6 +31,7 @@ module _ {A : Type 0} where
       let y = sum-same f g l (λ b m. h b (List·Memᴰ·tail m)) in
       omega arith
 
+  -- smaller parts, a smaller sum
   pub sum-mono : (f g : A → ℕ) (l : List A) → ((a : A) → List·Memᴰ a l → f a ≤ g a) → sumOf f l ≤ sumOf g l
   unfolding sumOf
   sum-mono f g [] h = omega arith
@@ -41,6 +40,7 @@ module _ {A : Type 0} where
       let y = sum-mono f g l (λ b m. h b (List·Memᴰ·tail m)) in
       omega arith
 
+  -- a list of one
   pub sum-one : (f : A → ℕ) (a : A) → sumOf f (a ∷ []) ≡ f a
   unfolding sumOf
   sum-one f a = omega arith
@@ -86,12 +86,8 @@ module _ {A : Type 0} where
   sum-put f [] a m = omega arith
   sum-put f (x ∷ l) a m = let y = sum-put f l a m in omega arith
 
+  -- nor the largest
   pub largest-put : (f : A → ℕ) (l : List A) (a : A) (m : List A) → largestOf f (l ++ m) ≤ largestOf f (l ++ (a ∷ m))
   unfolding largestOf
   largest-put f [] a m = omega arith
   largest-put f (x ∷ l) a m = let y = largest-put f l a m in omega arith
-
-  pub largest-append : (f : A → ℕ) (l m : List A) → largestOf f l ≤ largestOf f (l ++ m)
-  unfolding largestOf
-  largest-append f [] m = omega arith
-  largest-append f (x ∷ l) m = let y = largest-append f l m in omega arith
