@@ -21,6 +21,7 @@ use Rattle.meaning.proofs.Facts.{settings-facts, ConnectionFacts, sound-facts}
 use Rattle.meaning.proofs.QueueLaws.{lowest-member, without-member, nothing-waits, nothing-taken}
 use Rattle.meaning.proofs.KeptByOffer.{factor-within}
 use Rattle.guarantees.proofs.Admitting.{standing-facts}
+use Rattle.guarantees.specs.Runs.{InBox}
 use Rattle.guarantees.proofs.Choosing.{join-put, head-put, turned-same, Before, chosen-goes-first}
 use Rattle.guarantees.proofs.Sending.{sent-is}
 use Rattle.guarantees.proofs.Moves.{newPacket}
@@ -83,10 +84,6 @@ stepped-same box = go (turnDue box)
         (flatten (cond b (turned (queuesTaken (box .link) (box .queues))) (queuesTaken (box .link) (box .queues))))
     go true = turned-same (queuesTaken (box .link) (box .queues))
     go false = same-refl _
-
--- A packet is in the box: it waits or is on the link.
-abbrev pub InBox : Box → Packet → Type 0
-InBox box p = List·Memᴰ p (waiting box) ⊎ ((left : ℕ) × (box .link ≡ carries p left))
 
 module _ (box : Box) where
   -- A packet that a step takes was in the box.

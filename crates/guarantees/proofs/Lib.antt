@@ -25,3 +25,4 @@ pub mod Always
 pub mod Statements
 pub mod Isolated
 pub mod Turning
+pub mod WorkedRun

@@ -15,11 +15,11 @@ use Rattle.meaning.specs.Queues.{emptyQueues}
 use Rattle.meaning.specs.Calls.{newBox, withStanding, afterOffer}
 use Rattle.meaning.specs.Step.{moved}
 use Rattle.meaning.proofs.QueueLaws.{empty-flatten}
-use Rattle.guarantees.specs.Runs.{Departure, dueBy}
+use Rattle.guarantees.specs.Runs.{Departure, dueBy, InBox}
 use Rattle.guarantees.proofs.Saying.{OfferSays, StepGoes}
 use Rattle.guarantees.proofs.Classes.{bound-least}
 use Rattle.guarantees.proofs.Moves.{Move, refused, joins, accepts, idles, sends, departs, newPacket, leaving, Grows, move-grows}
-use Rattle.guarantees.proofs.Effects.{accepted-put, taking, stepped-same, connection-member, InBox, taken-in-box, in-box-before}
+use Rattle.guarantees.proofs.Effects.{accepted-put, taking, stepped-same, connection-member, taken-in-box, in-box-before}
 use Rattle.guarantees.proofs.Known.{Known}
 use Rattle.guarantees.proofs.Scheduled.{Scheduled}
 use Rattle.guarantees.proofs.Ahead.{KeepsEnvelope}

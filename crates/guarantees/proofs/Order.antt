@@ -15,13 +15,13 @@ use Rattle.meaning.specs.Queues.{rank, emptyQueues}
 use Rattle.meaning.specs.Box.{Box, Packet, Link, free, carries, connection, waiting, rankIn}
 use Rattle.meaning.specs.Calls.{newBox, withStanding, afterOffer}
 use Rattle.meaning.specs.Step.{linkTaken, queuesTaken, linkSent, moved}
-use Rattle.guarantees.specs.Runs.{Departure, inOrder}
+use Rattle.guarantees.specs.Runs.{Departure, inOrder, InBox}
 use Rattle.guarantees.proofs.Saying.{OfferSays, StepGoes}
 use Rattle.guarantees.proofs.Choosing.{Before}
 use Rattle.guarantees.proofs.Limits.{earlier-interval}
 use Rattle.guarantees.proofs.Sending.{sent-is}
 use Rattle.guarantees.proofs.Moves.{Move, refused, joins, accepts, idles, sends, departs, newPacket, leaving}
-use Rattle.guarantees.proofs.Effects.{accepted-put, Taking, nothing, takes, carrying, taking, stepped-same, InBox, taken-in-box, in-box-before}
+use Rattle.guarantees.proofs.Effects.{accepted-put, Taking, nothing, takes, carrying, taking, stepped-same, taken-in-box, in-box-before}
 use Rattle.guarantees.proofs.Known.{Known}
 use Rattle.guarantees.proofs.OnTime.{in-box-known}
 

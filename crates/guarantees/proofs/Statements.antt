@@ -18,9 +18,9 @@ use Rattle.meaning.specs.Box.{Box, Packet, Link, free, carries, connection, sta
 use Rattle.meaning.specs.Calls.{newBox, allowance, offerAnswer}
 use Rattle.meaning.proofs.Facts.{sound-facts}
 use Rattle.meaning.proofs.KeepsSound.{new-box-sound}
-use Rattle.guarantees.specs.Runs.{Call, Departure, inOrder, slotsOf, WithinEnvelope, timesAmong, timesDeparted, dueBy, boxOf, acceptedOf, departedOf, countFrom}
+use Rattle.guarantees.specs.Runs.{Call, Departure, inOrder, slotsOf, WithinEnvelope, timesAmong, timesDeparted, dueBy, boxOf, acceptedOf, departedOf, countFrom, InBox}
 use Rattle.guarantees.proofs.Saying.{OfferSays, offer-says}
-use Rattle.guarantees.proofs.Effects.{InBox, connection-member}
+use Rattle.guarantees.proofs.Effects.{connection-member}
 use Rattle.guarantees.proofs.Metered.{meter-answers}
 use Rattle.guarantees.proofs.OnTime.{in-box-known}
 use Rattle.guarantees.proofs.Once.{ofPackets, ofDepartures}

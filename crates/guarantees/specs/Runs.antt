@@ -1,8 +1,10 @@
 -- A run: any list of admissions, offers and steps from a new box, refused ones among them, and the history that its own calls and
 -- answers tell.
 use Prim.Native.Nat.{ℕ, zero, suc, _+_, _≤_}
+use mathlib.Core.Path.{_≡_}
 use mathlib.Core.Bool.{Bool, true, cond, _&&_, _||_, not}
-use mathlib.Core.List.{List, [], _∷_, _++_}
+use mathlib.Core.List.{List, [], _∷_, _++_, List·Memᴰ}
+use mathlib.Core.Logic.{_⊎_}
 use lib.Dec.{eqb, ltb}
 use Rattle.laws.specs.Tests.{every}
 use Rattle.meaning.specs.declared.Admitted.{Admitted}
@@ -12,7 +14,7 @@ use Rattle.laws.specs.Sums.{sumOf}
 use Rattle.laws.specs.SumLaws.{given}
 use Rattle.meaning.specs.Numbers.{Settings, Connection, bound}
 use Rattle.meaning.specs.Envelope.{mayHave, countIn}
-use Rattle.meaning.specs.Box.{Box, Packet, connection}
+use Rattle.meaning.specs.Box.{Box, Packet, carries, connection, waiting}
 use Rattle.meaning.specs.Calls.{newBox, admissionAnswer, afterAdmission, offerAnswer, afterOffer}
 use Rattle.meaning.specs.Step.{stepAnswer, afterStep}
 
@@ -133,6 +135,10 @@ timesAmong n ps = sumOf (λ p. given (eqb (p .serial) n) 1) ps
 -- How often it is among these departures.
 unfoldable pub timesDeparted : ℕ → List Departure → ℕ
 timesDeparted n gs = sumOf (λ g. given (eqb (g .serial) n) 1) gs
+
+-- A packet is in the box: it waits or is on the link.
+abbrev pub InBox : Box → Packet → Type 0
+InBox box p = List·Memᴰ p (waiting box) ⊎ ((left : ℕ) × (box .link ≡ carries p left))
 
 -- The slot by which a packet of connection n that arrived at this slot is to have departed: its class's bound later.
 unfoldable pub dueBy : Box → ℕ → ℕ → ℕ
