@@ -12,6 +12,7 @@ use Rattle.meaning.specs.Queues.{rank}
 use Rattle.meaning.specs.Envelope.{envelope}
 use Rattle.meaning.specs.Box.{Box, Packet, carries, connection, waiting, rankIn}
 use Rattle.meaning.proofs.Facts.{ConnectionFacts}
+use Rattle.guarantees.specs.Runs.{InBox}
 use Rattle.guarantees.proofs.Classes.{factor-rises, bound-apart}
 use Rattle.guarantees.proofs.Backlog.{waitingWork, linkWork, arrivedSince, InTheWay, Busy, Backlog}
 use Rattle.guarantees.proofs.Known.{Known}
@@ -170,7 +171,7 @@ module _ (box : Box) (H : List Packet) (k : Known box H) (conforming : KeepsEnve
 
 -- A packet of q on the link or among those that wait is work.
 in-box-works : (q : Packet → Bool) (box : Box) (H : List Packet) → Known box H → (p : Packet) → q p ≡ true →
-    List·Memᴰ p (waiting box) ⊎ ((left : ℕ) × (box .link ≡ carries p left)) → 1 ≤ waitingWork q (waiting box) + linkWork q (box .link)
+    InBox box p → 1 ≤ waitingWork q (waiting box) + linkWork q (box .link)
 unfolding waitingWork
 in-box-works q box H k p e (inl n) =
     let g = given-true (p .units) e in
@@ -185,17 +186,17 @@ in-box-works q box H k p e (inr l) =
 
 -- A packet in the box is not at its bound.
 pub not-at-bound : (box : Box) (H : List Packet) → Known box H → KeepsEnvelope envelope box H → Scheduled box H → (p : Packet) → List·Memᴰ p H →
-    List·Memᴰ p (waiting box) ⊎ ((left : ℕ) × (box .link ≡ carries p left)) →
+    InBox box p →
     box .counter ≡ p .arrival + bound (box .settings) (classOf box p) → ⊥
 not-at-bound box H k conforming s p m inside now = go inside (s (upTo box p) (up-to-closed box H p))
   where
     works : 1 ≤ waitingWork (upTo box p) (waiting box) + linkWork (upTo box p) (box .link)
     works = in-box-works (upTo box p) box H k p (up-to-self box p) inside
 
-    early : List·Memᴰ p (waiting box) ⊎ ((left : ℕ) × (box .link ≡ carries p left)) → (b : Busy (upTo box p) (box .counter) (waiting box) (box .link) H) → b .since ≤ p .arrival
+    early : InBox box p → (b : Busy (upTo box p) (box .counter) (waiting box) (box .link) H) → b .since ≤ p .arrival
     early (inl n) b = b .waits p n (up-to-self box p)
     early (inr l) b = b .carried p (l .0) (l .1) (up-to-self box p)
 
-    go : List·Memᴰ p (waiting box) ⊎ ((left : ℕ) × (box .link ≡ carries p left)) → Backlog (upTo box p) (box .counter) (waiting box) (box .link) H → ⊥
+    go : InBox box p → Backlog (upTo box p) (box .counter) (waiting box) (box .link) H → ⊥
     go i (inl z) = let w = works in omega arith
     go i (inr b) = never-at-bound box H k conforming p m (b .since) (b .rest) (early i b) (b .way) (let a = b .account in let w = works in omega arith)

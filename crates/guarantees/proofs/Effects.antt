@@ -1,6 +1,6 @@
 -- What a move does to the packets that wait and to the link: an accepted packet is put in; a step takes the packet that goes first,
 -- if the link is free, and sends a unit.
-use Prim.Native.Nat.{ℕ, suc, _-_, _≤_}
+use Prim.Native.Nat.{ℕ, _-_, _≤_}
 use mathlib.Core.Path.{_≡_, refl}
 use mathlib.Core.Bool.{Bool, true, false, cond}
 use mathlib.Core.List.{List, [], map, flatten, List·Memᴰ, List·Memᴰ·not-nil}
@@ -11,7 +11,6 @@ use native.Mathlib.Omega.{arith}
 use Rattle.laws.specs.Tests.{within-facts}
 use Rattle.laws.specs.Putting.{Put, Same, same-refl}
 use Rattle.laws.specs.Lists.{getD-member}
-use Rattle.meaning.specs.declared.Offered.{Offered}
 use Rattle.meaning.specs.Numbers.{factor}
 use Rattle.meaning.specs.Box.{Box, Standing, Packet, Link, free, carries, connections, connection, noConnection, stands, waiting, sound}
 use Rattle.meaning.specs.Queues.{turned, lowestHead, withoutLowestHead}
@@ -24,7 +23,7 @@ use Rattle.guarantees.proofs.Admitting.{standing-facts}
 use Rattle.guarantees.specs.Runs.{InBox}
 use Rattle.guarantees.proofs.Choosing.{join-put, head-put, turned-same, Before, chosen-goes-first}
 use Rattle.guarantees.proofs.Sending.{sent-is}
-use Rattle.guarantees.proofs.Moves.{newPacket}
+use Rattle.guarantees.proofs.Moves.{newPacket, accepting}
 
 -- What the connection of a standing number asked for is among the connections that stand.
 pub connection-member : (box : Box) (n : ℕ) → 1 ≤ n → n ≤ length (box .standing) → List·Memᴰ (connection box n) (connections box)
@@ -38,7 +37,7 @@ connection-kept box s n h l = standing-facts box s (connection box n) (connectio
 
 -- An accepted packet is put in among those that wait.
 pub accepted-put : (box : Box) → sound box ≡ true → (n units : ℕ) → stands box n ≡ true →
-    Put (newPacket box n units) (waiting box) (waiting (afterOffer box n units (Offered.Accepted (suc (box .accepted)))))
+    Put (newPacket box n units) (waiting box) (waiting (accepting box n units))
 unfolding waiting afterOffer joined stands
 accepted-put box s n units e =
     let w = within-facts 1 n (length (box .standing)) e in

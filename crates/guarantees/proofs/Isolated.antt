@@ -22,7 +22,7 @@ use Rattle.meaning.proofs.KeepsSound.{new-box-sound}
 use Rattle.guarantees.specs.Runs.{Call, admit, offer, step, toOffer, reply, after, Event, trace}
 use Rattle.guarantees.specs.Isolation.{Ask, admission, offering, askOf, asked, serialAside, answerTo, told, isTen, neverTen}
 use Rattle.guarantees.proofs.Saying.{OfferSays, offer-says}
-use Rattle.guarantees.proofs.Moves.{move-grows, call-moves}
+use Rattle.guarantees.proofs.Moves.{move-grows, call-moves, accepting}
 use Rattle.guarantees.proofs.Ahead.{connections-length}
 use Rattle.guarantees.proofs.Known.{offer-connections}
 use Rattle.guarantees.proofs.Records.{charged-mine, charged-other}
@@ -131,7 +131,7 @@ module _ (n : ℕ) (h : 1 ≤ n) where
   view-offered box units (Offered.Accepted serial) says =
       let r = within-facts 1 n (length (box .standing)) (unfold stands in says .1) in
       let contracts = offer-connections box n units in
-      let meter : allowance (afterOffer box n units (Offered.Accepted (suc (box .accepted)))) n ≡
+      let meter : allowance (accepting box n units) n ≡
       charged (getD (connections box) (n - 1) noConnection) (allowance box n) (box .counter) =
       charged-mine box n units (r .0) (r .1) in
       rw (says .5) (λ i. record { contracts = contracts i; meter = meter i })

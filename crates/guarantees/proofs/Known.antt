@@ -9,7 +9,6 @@ use native.Mathlib.Omega.{arith}
 use Rattle.laws.specs.Tests.{within-facts}
 use Rattle.laws.specs.Sums.{sumOf, largestOf}
 use Rattle.meaning.specs.declared.Admitted.{Admitted}
-use Rattle.meaning.specs.declared.Offered.{Offered}
 use Rattle.meaning.specs.Numbers.{Settings, Connection, settingsAllowed}
 use Rattle.meaning.specs.Envelope.{full}
 use Rattle.meaning.specs.Admission.{HoldsWithoutEnd, sumAt, inTheWay}
@@ -20,12 +19,12 @@ use Rattle.meaning.specs.Step.{linkSent, moved}
 use Rattle.meaning.proofs.Facts.{SettingsFacts, settings-facts, ConnectionFacts, PacketFacts}
 use Rattle.meaning.proofs.QueueLaws.{empty-flatten}
 use Rattle.guarantees.specs.Runs.{Departure}
-use Rattle.guarantees.proofs.Saying.{AdmissionSays, admission-says, OfferSays, StepGoes}
+use Rattle.guarantees.proofs.Saying.{AdmissionSays, admission-says, StepGoes}
 use Rattle.guarantees.proofs.WithoutEnd.{condition-test}
 use Rattle.guarantees.proofs.Admitting.{taken-holds, newcomer-facts}
 use Rattle.guarantees.proofs.Backlog.{OnLink}
 use Rattle.guarantees.proofs.Sending.{sent-cases}
-use Rattle.guarantees.proofs.Moves.{Move, refused, joins, accepts, idles, sends, departs, newPacket, Grows, move-grows, charged-same, facts-grow}
+use Rattle.guarantees.proofs.Moves.{Move, refused, joins, accepts, idles, sends, departs, newPacket, Grows, move-grows, charged-same, facts-grow, accepting, AcceptSays}
 use Rattle.guarantees.proofs.Effects.{accepted-put, Taking, nothing, takes, carrying, taking, stepped-same}
 
 -- What is known of the box and of every packet accepted so far.
@@ -80,14 +79,14 @@ known-joins box H c n e rows same g k =
     }
 
 -- An accepted packet changes no connection.
-pub offer-connections : (box : Box) (n units : ℕ) → connections (afterOffer box n units (Offered.Accepted (suc (box .accepted)))) ≡ connections box
+pub offer-connections : (box : Box) (n units : ℕ) → connections (accepting box n units) ≡ connections box
 unfolding connections afterOffer
 offer-connections box n units = charged-same box n
 
 -- The facts of a packet that is accepted now.
-new-packet-facts : (box : Box) (n units : ℕ) → OfferSays box n units (Offered.Accepted (suc (box .accepted))) →
-    Grows box (afterOffer box n units (Offered.Accepted (suc (box .accepted)))) →
-    PacketFacts (afterOffer box n units (Offered.Accepted (suc (box .accepted)))) (newPacket box n units)
+new-packet-facts : (box : Box) (n units : ℕ) → AcceptSays box n units →
+    Grows box (accepting box n units) →
+    PacketFacts (accepting box n units) (newPacket box n units)
 new-packet-facts box n units s g =
     let w = within-facts 1 n (length (box .standing)) (unfold stands in s .1) in
     let u = within-facts 1 units (connection box n .longest) (s .2) in
@@ -104,9 +103,9 @@ new-packet-facts box n units s g =
     }
 
 -- A packet is accepted.
-known-accepts : (box : Box) (H : List Packet) (n units : ℕ) → OfferSays box n units (Offered.Accepted (suc (box .accepted))) →
-    Grows box (afterOffer box n units (Offered.Accepted (suc (box .accepted)))) →
-    Known box H → Known (afterOffer box n units (Offered.Accepted (suc (box .accepted)))) (H ++ (newPacket box n units ∷ []))
+known-accepts : (box : Box) (H : List Packet) (n units : ℕ) → AcceptSays box n units →
+    Grows box (accepting box n units) →
+    Known box H → Known (accepting box n units) (H ++ (newPacket box n units ∷ []))
 unfolding afterOffer
 known-accepts box H n units s g k =
     record {
@@ -124,10 +123,11 @@ known-accepts box H n units s g k =
     p : Packet
     p = newPacket box n units
 
-    same : connections (afterOffer box n units (Offered.Accepted (suc (box .accepted)))) ≡ connections box
+    same : connections (accepting box n units) ≡ connections box
     same = offer-connections box n units
 
-    rise : (x y : Packet) → List·Memᴰ x H ⊎ List·Memᴰ x (p ∷ []) → List·Memᴰ y H ⊎ List·Memᴰ y (p ∷ []) → x .serial ≤ y .serial → x .arrival ≤ y .arrival
+    rise : (x y : Packet) → List·Memᴰ x H ⊎ List·Memᴰ x (p ∷ []) → List·Memᴰ y H ⊎ List·Memᴰ y (p ∷ []) →
+        x .serial ≤ y .serial → x .arrival ≤ y .arrival
     rise x y (inl a) (inl b) h = k .arrivals-rise x y a b h
     rise x y (inl a) (inr b) h =
         let e = ap (λ (p : Packet). p .arrival) (List·Memᴰ·eq-of-singleton b) in
@@ -160,7 +160,8 @@ known-steps box H go g k =
     still-waits (takes x W e put there others first) p m = others p m
     still-waits (carrying x left e) p m = m
 
-    sent : (p : Packet) (left : ℕ) → List·Memᴰ p H → left ≤ p .units → (x : Packet) (l : ℕ) → linkSent (carries p left) ≡ carries x l → OnLink (suc (box .counter)) H x l
+    sent : (p : Packet) (left : ℕ) → List·Memᴰ p H → left ≤ p .units →
+        (x : Packet) (l : ℕ) → linkSent (carries p left) ≡ carries x l → OnLink (suc (box .counter)) H x l
     sent p left m u x l e =
         ⊎-elim (λ (c : (left ≤ 1) × (linkSent (carries p left) ≡ free)). absurd (let h = c .1 in let z : _≡_ {A = ℕ} 0 1 = cc in omega arith))
         (λ (c : (2 ≤ left) × (linkSent (carries p left) ≡ carries p (left - 1))).
@@ -181,7 +182,9 @@ known-steps box H go g k =
 pub known-moves : (box next : Box) (H H′ : List Packet) (G G′ : List Departure) → Known box H → Move box H G next H′ G′ → Known next H′
 known-moves box next H H′ G G′ k refused = k
 known-moves box next H H′ G G′ k (joins c n e) =
-    known-joins box H c n e (box .standing ++ (record { asked = c; allowance = full c } ∷ [])) (unfold withNewcomer connections in map-append (λ (s : Standing). s .asked) (box .standing) (record { asked = c; allowance = full c } ∷ [])) (move-grows {H = H} {G = G} (joins c n e)) k
+    known-joins box H c n e (box .standing ++ (record { asked = c; allowance = full c } ∷ []))
+    (unfold withNewcomer connections in map-append (λ (s : Standing). s .asked) (box .standing) (record { asked = c; allowance = full c } ∷ []))
+    (move-grows {H = H} {G = G} (joins c n e)) k
 known-moves box next H H′ G G′ k (accepts n units s) = known-accepts box H n units s (move-grows {H = H} {G = G} (accepts n units s)) k
 known-moves box next H H′ G G′ k (idles go e) = known-steps box H go (move-grows {H = H} {G = G} (idles go e)) k
 known-moves box next H H′ G G′ k (sends go p left e l) = known-steps box H go (move-grows {H = H} {G = G} (sends go p left e l)) k

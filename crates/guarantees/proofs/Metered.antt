@@ -10,7 +10,6 @@ use native.Mathlib.Decide.{decLe, ℕ-discrete}
 use native.Mathlib.Omega.{arith}
 use Rattle.laws.specs.Tests.{within-facts}
 use Rattle.laws.specs.Sums.{sumOf}
-use Rattle.meaning.specs.declared.Offered.{Offered}
 use Rattle.meaning.specs.Numbers.{Settings, Connection}
 use Rattle.meaning.specs.Envelope.{Allowance, mayHave, envelope, countIn, fits, full, conforms, charged}
 use Rattle.meaning.specs.Box.{Box, Standing, Packet, connection, stands}
@@ -20,8 +19,7 @@ use Rattle.meaning.proofs.Facts.{ConnectionFacts}
 use Rattle.meaning.proofs.Allowances.{Means, full-means, means-later}
 use Rattle.meaning.proofs.RecordFits.{Descending, numberOf, record-answers, record-charged}
 use Rattle.guarantees.specs.Runs.{Departure, slotsOf, WithinEnvelope}
-use Rattle.guarantees.proofs.Saying.{OfferSays}
-use Rattle.guarantees.proofs.Moves.{Move, refused, joins, accepts, idles, sends, departs, newPacket, Grows, move-grows}
+use Rattle.guarantees.proofs.Moves.{Move, refused, joins, accepts, idles, sends, departs, newPacket, Grows, move-grows, accepting, AcceptSays, joining}
 use Rattle.guarantees.proofs.Records.{charged-mine, charged-other, joined-other, joined-allowance, joined-connection}
 use Rattle.guarantees.proofs.Effects.{connection-member}
 use Rattle.guarantees.proofs.Known.{Known}
@@ -80,8 +78,8 @@ unfolding newBox
 metered-new set j h l = absurd (omega arith)
 
 -- A connection joins with a fresh record.
-metered-joins : (box : Box) (H : List Packet) (c : Connection) → Grows box (withStanding box (box .standing ++ (record { asked = c; allowance = full c } ∷ []))) →
-    Known box H → Metered box H → Metered (withStanding box (box .standing ++ (record { asked = c; allowance = full c } ∷ []))) H
+metered-joins : (box : Box) (H : List Packet) (c : Connection) → Grows box (joining box c) →
+    Known box H → Metered box H → Metered (joining box c) H
 metered-joins box H c g k m j h l =
     elim (decLe j (length (box .standing))) [
       | yes o ↦ meter-stays box next H H j (g .connection-same j h o) (joined-other box row j h o) refl (g .counter-more) (m j h o)
@@ -105,9 +103,9 @@ metered-joins box H c g k m j h l =
         let t : j ≤ length (box .standing ++ (row ∷ [])) = unfold withStanding in l in omega arith
 
 -- A packet is accepted: its connection is charged, the others are not.
-metered-accepts : (box : Box) (H : List Packet) (n units : ℕ) → OfferSays box n units (Offered.Accepted (suc (box .accepted))) →
-    Grows box (afterOffer box n units (Offered.Accepted (suc (box .accepted)))) → Known box H → Metered box H →
-    Metered (afterOffer box n units (Offered.Accepted (suc (box .accepted)))) (H ++ (newPacket box n units ∷ []))
+metered-accepts : (box : Box) (H : List Packet) (n units : ℕ) → AcceptSays box n units →
+    Grows box (accepting box n units) → Known box H → Metered box H →
+    Metered (accepting box n units) (H ++ (newPacket box n units ∷ []))
 metered-accepts box H n units s g k m j h l =
     elim (ℕ-discrete n j) [
       | yes e ↦ rw (← e) mine
@@ -121,7 +119,7 @@ metered-accepts box H n units s g k m j h l =
     H′ = H ++ (p ∷ [])
 
     next : Box
-    next = afterOffer box n units (Offered.Accepted (suc (box .accepted)))
+    next = accepting box n units
 
     r : (1 ≤ n) × (n ≤ length (box .standing))
     r = within-facts 1 n (length (box .standing)) (unfold stands in s .1)

@@ -27,13 +27,25 @@ newPacket box n units = record { serial = suc (box .accepted); connection = n; u
 abbrev pub leaving : Box → Packet → Departure
 leaving box p = record { serial = p .serial; connection = p .connection; arrival = p .arrival; departure = suc (box .counter) }
 
+-- The box once a packet of this connection and length is accepted.
+abbrev pub accepting : Box → ℕ → ℕ → Box
+accepting box n units = afterOffer box n units (Offered.Accepted (suc (box .accepted)))
+
+-- What the answer of that offer says.
+abbrev pub AcceptSays : Box → ℕ → ℕ → Type 0
+AcceptSays box n units = OfferSays box n units (Offered.Accepted (suc (box .accepted)))
+
+-- The box once this connection is taken.
+abbrev pub joining : Box → Connection → Box
+joining box c = withStanding box (box .standing ++ (record { asked = c; allowance = full c } ∷ []))
+
 -- What befalls a box, with H accepted and G departed before.
 pub data Move (box : Box) (H : List Packet) (G : List Departure) : Box → List Packet → List Departure → Type 0 where
   refused : Move box H G box H G
   joins : (c : Connection) (n : ℕ) → admissionAnswer box c ≡ Admitted.Taken n →
-      Move box H G (withStanding box (box .standing ++ (record { asked = c; allowance = full c } ∷ []))) H G
-  accepts : (n units : ℕ) → OfferSays box n units (Offered.Accepted (suc (box .accepted))) →
-      Move box H G (afterOffer box n units (Offered.Accepted (suc (box .accepted)))) (H ++ (newPacket box n units ∷ [])) G
+      Move box H G (joining box c) H G
+  accepts : (n units : ℕ) → AcceptSays box n units →
+      Move box H G (accepting box n units) (H ++ (newPacket box n units ∷ [])) G
   idles : StepGoes box → linkTaken (box .link) (box .queues) ≡ free → Move box H G (moved box) H G
   sends : StepGoes box → (p : Packet) (left : ℕ) → linkTaken (box .link) (box .queues) ≡ carries p left → leb left 1 ≡ false →
       Move box H G (moved box) H G

@@ -7,7 +7,6 @@ use lib.ListN.{length}
 use native.Mathlib.Decide.{ℕ-discrete}
 use native.Mathlib.Omega.{arith}
 use Rattle.laws.specs.Tests.{within-facts}
-use Rattle.meaning.specs.declared.Offered.{Offered}
 use Rattle.meaning.specs.Numbers.{Settings}
 use Rattle.meaning.specs.Envelope.{envelope}
 use Rattle.meaning.specs.Box.{Box, Packet, connection, stands, waiting}
@@ -16,9 +15,9 @@ use Rattle.meaning.specs.Calls.{newBox, withStanding, afterOffer}
 use Rattle.meaning.specs.Step.{moved}
 use Rattle.meaning.proofs.QueueLaws.{empty-flatten}
 use Rattle.guarantees.specs.Runs.{Departure, dueBy, InBox}
-use Rattle.guarantees.proofs.Saying.{OfferSays, StepGoes}
+use Rattle.guarantees.proofs.Saying.{StepGoes}
 use Rattle.guarantees.proofs.Classes.{bound-least}
-use Rattle.guarantees.proofs.Moves.{Move, refused, joins, accepts, idles, sends, departs, newPacket, leaving, Grows, move-grows}
+use Rattle.guarantees.proofs.Moves.{Move, refused, joins, accepts, idles, sends, departs, newPacket, leaving, Grows, move-grows, accepting, AcceptSays}
 use Rattle.guarantees.proofs.Effects.{accepted-put, taking, stepped-same, connection-member, taken-in-box, in-box-before}
 use Rattle.guarantees.proofs.Known.{Known}
 use Rattle.guarantees.proofs.Scheduled.{Scheduled}
@@ -28,7 +27,8 @@ use Rattle.guarantees.proofs.Deadline.{not-at-bound}
 -- No packet in the box is at its bound, and every departure came by then.
 pub record OnTime (box : Box) (G : List Departure) : Type 0 where
   pub in-box : (p : Packet) → InBox box p → box .counter < dueBy box (p .connection) (p .arrival)
-  pub departed : (g : Departure) → List·Memᴰ g G → (1 ≤ g .connection) × (g .connection ≤ length (box .standing)) × (g .departure ≤ dueBy box (g .connection) (g .arrival))
+  pub departed : (g : Departure) → List·Memᴰ g G →
+      (1 ≤ g .connection) × (g .connection ≤ length (box .standing)) × (g .departure ≤ dueBy box (g .connection) (g .arrival))
 
 -- A packet in the box was accepted.
 pub in-box-known : (box : Box) (H : List Packet) → Known box H → (p : Packet) → InBox box p → List·Memᴰ p H
@@ -66,13 +66,13 @@ in-box-stays box next H G w k o c p i =
     rw (due-same box next w (p .connection) (p .arrival) (f .connection-least) (f .connection-most), c) (o .in-box p i)
 
 -- An accepted packet has its whole bound ahead.
-on-time-accepts : (box : Box) (H : List Packet) (G : List Departure) (n units : ℕ) → OfferSays box n units (Offered.Accepted (suc (box .accepted))) →
-    Grows box (afterOffer box n units (Offered.Accepted (suc (box .accepted)))) → Known box H → OnTime box G →
-    OnTime (afterOffer box n units (Offered.Accepted (suc (box .accepted)))) G
+on-time-accepts : (box : Box) (H : List Packet) (G : List Departure) (n units : ℕ) → AcceptSays box n units →
+    Grows box (accepting box n units) → Known box H → OnTime box G →
+    OnTime (accepting box n units) G
 on-time-accepts box H G n units s w k o = record { in-box = inside; departed = departed-stays box _ G w o }
   where
     next : Box
-    next = afterOffer box n units (Offered.Accepted (suc (box .accepted)))
+    next = accepting box n units
 
     r : (1 ≤ n) × (n ≤ length (box .standing))
     r = within-facts 1 n (length (box .standing)) (unfold stands in s .1)

@@ -11,7 +11,6 @@ use native.Mathlib.Omega.{arith}
 use Rattle.laws.specs.Tests.{within, within-facts, within-test, bool-cases}
 use Rattle.laws.specs.Sums.{sumOf, sum-append}
 use Rattle.laws.specs.SumLaws.{given, given-true, given-false, sum-one}
-use Rattle.meaning.specs.declared.Offered.{Offered}
 use Rattle.meaning.specs.Numbers.{Settings}
 use Rattle.meaning.specs.Box.{Box, Packet, Link, carries, waiting, onLink}
 use Rattle.meaning.specs.Queues.{emptyQueues}
@@ -19,7 +18,7 @@ use Rattle.meaning.specs.Calls.{newBox, withStanding, afterOffer}
 use Rattle.meaning.specs.Step.{linkTaken, queuesTaken, linkSent, moved}
 use Rattle.meaning.proofs.QueueLaws.{empty-flatten}
 use Rattle.guarantees.specs.Runs.{Departure, timesAmong, countFrom}
-use Rattle.guarantees.proofs.Moves.{Move, refused, joins, accepts, idles, sends, departs, newPacket, leaving}
+use Rattle.guarantees.proofs.Moves.{Move, refused, joins, accepts, idles, sends, departs, newPacket, leaving, accepting}
 use Rattle.guarantees.proofs.Effects.{accepted-put, Taking, nothing, takes, carrying, taking, stepped-same}
 
 -- What f gives for these packets, by serial, connection and arrival.
@@ -85,14 +84,14 @@ once-moves box next H H′ G G′ o (accepts n units s) = λ f. accepted f (o f)
   where
     accepted : (f : ℕ → ℕ → ℕ → ℕ) → ofPackets f H ≡ ofPackets f (waiting box) + ofPackets f (onLink (box .link)) + ofDepartures f G →
         ofPackets f (H ++ (newPacket box n units ∷ [])) ≡
-        ofPackets f (waiting (afterOffer box n units (Offered.Accepted (suc (box .accepted))))) +
-        ofPackets f (onLink (afterOffer box n units (Offered.Accepted (suc (box .accepted))) .link)) + ofDepartures f G
+        ofPackets f (waiting (accepting box n units)) +
+        ofPackets f (onLink (accepting box n units .link)) + ofDepartures f G
     accepted f e =
         let p = newPacket box n units in
         let g : Packet → ℕ = λ p. f (p .serial) (p .connection) (p .arrival) in
-        let l : ofPackets f (onLink (afterOffer box n units (Offered.Accepted (suc (box .accepted))) .link)) ≡ ofPackets f (onLink (box .link)) =
+        let l : ofPackets f (onLink (accepting box n units .link)) ≡ ofPackets f (onLink (box .link)) =
         unfold afterOffer in refl in
-        let w : ofPackets f (waiting (afterOffer box n units (Offered.Accepted (suc (box .accepted))))) ≡ g p + ofPackets f (waiting box) =
+        let w : ofPackets f (waiting (accepting box n units)) ≡ g p + ofPackets f (waiting box) =
         unfold ofPackets in accepted-put box (s .0) n units (s .1) .sums g in
         let a : ofPackets f (H ++ (p ∷ [])) ≡ ofPackets f H + ofPackets f (p ∷ []) = unfold ofPackets in sum-append g H (p ∷ []) in
         let b : ofPackets f (p ∷ []) ≡ g p = unfold ofPackets in sum-one g p in

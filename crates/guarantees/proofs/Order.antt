@@ -1,5 +1,5 @@
 -- Departures of one connection come in the order of acceptance.
-use Prim.Native.Nat.{ℕ, suc, _≤_, _<_}
+use Prim.Native.Nat.{ℕ, _≤_, _<_}
 use mathlib.Core.Path.{_≡_, refl, sym, _∙_, ap}
 use mathlib.Core.Bool.{Bool, true, not, _||_, and-eq-true-iff}
 use mathlib.Core.List.{List, [], _∷_, _++_, flatten, List·Memᴰ, List·Memᴰ·head, List·Memᴰ·tail, List·Memᴰ·not-nil, List·Memᴰ·eq-of-singleton, List·Memᴰ·append-cases}
@@ -9,18 +9,17 @@ use borrow.Author.Tests.{lt-ltb, ne-eqb}
 use native.Mathlib.Decide.{decLt, ℕ-discrete}
 use native.Mathlib.Omega.{arith}
 use Rattle.laws.specs.Tests.{every, every-at, every-all, or-left, or-right}
-use Rattle.meaning.specs.declared.Offered.{Offered}
 use Rattle.meaning.specs.Numbers.{Settings, factor}
 use Rattle.meaning.specs.Queues.{rank, emptyQueues}
 use Rattle.meaning.specs.Box.{Box, Packet, Link, free, carries, connection, waiting, rankIn}
 use Rattle.meaning.specs.Calls.{newBox, withStanding, afterOffer}
 use Rattle.meaning.specs.Step.{linkTaken, queuesTaken, linkSent, moved}
 use Rattle.guarantees.specs.Runs.{Departure, inOrder, InBox}
-use Rattle.guarantees.proofs.Saying.{OfferSays, StepGoes}
+use Rattle.guarantees.proofs.Saying.{StepGoes}
 use Rattle.guarantees.proofs.Choosing.{Before}
 use Rattle.guarantees.proofs.Limits.{earlier-interval}
 use Rattle.guarantees.proofs.Sending.{sent-is}
-use Rattle.guarantees.proofs.Moves.{Move, refused, joins, accepts, idles, sends, departs, newPacket, leaving}
+use Rattle.guarantees.proofs.Moves.{Move, refused, joins, accepts, idles, sends, departs, newPacket, leaving, accepting, AcceptSays}
 use Rattle.guarantees.proofs.Effects.{accepted-put, Taking, nothing, takes, carrying, taking, stepped-same, taken-in-box, in-box-before}
 use Rattle.guarantees.proofs.Known.{Known}
 use Rattle.guarantees.proofs.OnTime.{in-box-known}
@@ -30,7 +29,8 @@ pub record Ordered (box : Box) (G : List Departure) : Type 0 where
   pub so-far : inOrder G ≡ true
   pub counted : (g : Departure) → List·Memᴰ g G → g .serial ≤ box .accepted
   pub gone-first : (g : Departure) → List·Memᴰ g G → (x : Packet) → InBox box x → g .connection ≡ x .connection → g .serial < x .serial
-  pub link-first : (p : Packet) (left : ℕ) → box .link ≡ carries p left → (x : Packet) → List·Memᴰ x (waiting box) → p .connection ≡ x .connection → p .serial < x .serial
+  pub link-first : (p : Packet) (left : ℕ) → box .link ≡ carries p left →
+      (x : Packet) → List·Memᴰ x (waiting box) → p .connection ≡ x .connection → p .serial < x .serial
 
 -- Of two packets of one connection, the one that goes before was accepted before.
 before-accepted : (box : Box) (H : List Packet) → Known box H → (p x : Packet) → List·Memᴰ p H → List·Memᴰ x H →
@@ -75,8 +75,8 @@ ordered-new set =
     }
 
 -- An accepted packet comes after all of its connection.
-ordered-accepts : (box : Box) (H : List Packet) (G : List Departure) (n units : ℕ) → OfferSays box n units (Offered.Accepted (suc (box .accepted))) →
-    Known box H → Ordered box G → Ordered (afterOffer box n units (Offered.Accepted (suc (box .accepted)))) G
+ordered-accepts : (box : Box) (H : List Packet) (G : List Departure) (n units : ℕ) → AcceptSays box n units →
+    Known box H → Ordered box G → Ordered (accepting box n units) G
 ordered-accepts box H G n units s k o =
     record {
       so-far = o .so-far;
@@ -88,10 +88,10 @@ ordered-accepts box H G n units s k o =
           (λ (h : List·Memᴰ x (waiting box)). o .link-first p left (same p left l) x h c) (accepted-put box (s .0) n units (s .1) .parts x m);
     }
   where
-    same : (p : Packet) (left : ℕ) → afterOffer box n units (Offered.Accepted (suc (box .accepted))) .link ≡ carries p left → box .link ≡ carries p left
+    same : (p : Packet) (left : ℕ) → accepting box n units .link ≡ carries p left → box .link ≡ carries p left
     same p left l = unfold afterOffer in l
 
-    gone : (g : Departure) → List·Memᴰ g G → (x : Packet) → InBox (afterOffer box n units (Offered.Accepted (suc (box .accepted)))) x → g .connection ≡ x .connection → g .serial < x .serial
+    gone : (g : Departure) → List·Memᴰ g G → (x : Packet) → InBox (accepting box n units) x → g .connection ≡ x .connection → g .serial < x .serial
     gone g m x (inl w) c =
         ⊎-elim (λ (e : x ≡ newPacket box n units). let f = o .counted g m in let a = ap (λ (p : Packet). p .serial) e in omega arith)
         (λ (h : List·Memᴰ x (waiting box)). o .gone-first g m x (inl h) c) (accepted-put box (s .0) n units (s .1) .parts x w)

@@ -6,14 +6,14 @@ use lib.ListN.{length, length-map, List·getD-append}
 use lib.Seq.{getD-set-same, getD-set-other}
 use native.Mathlib.Omega.{arith}
 use Rattle.laws.specs.Places.{map-set, last-at}
-use Rattle.meaning.specs.declared.Offered.{Offered}
 use Rattle.meaning.specs.Envelope.{full, charged}
 use Rattle.meaning.specs.Box.{Box, Standing, connections, connection, noConnection}
 use Rattle.meaning.specs.Calls.{withStanding, allowance, afterOffer, chargedAt}
+use Rattle.guarantees.proofs.Moves.{accepting}
 
 -- The allowance of the connection that an accepted packet charges, and of the others.
 pub charged-mine : (box : Box) (n units : ℕ) → 1 ≤ n → n ≤ length (box .standing) →
-    allowance (afterOffer box n units (Offered.Accepted (suc (box .accepted)))) n ≡ charged (connection box n) (allowance box n) (box .counter)
+    allowance (accepting box n units) n ≡ charged (connection box n) (allowance box n) (box .counter)
 unfolding allowance afterOffer chargedAt
 charged-mine box n units h l =
     rw (map-set (λ (s : Standing). s .allowance) (box .standing) (n - 1) _)
@@ -21,7 +21,7 @@ charged-mine box n units h l =
 
 -- The records of the others stay.
 pub charged-other : (box : Box) (n units j : ℕ) → 1 ≤ n → 1 ≤ j → (n ≡ j → ⊥) →
-    allowance (afterOffer box n units (Offered.Accepted (suc (box .accepted)))) j ≡ allowance box j
+    allowance (accepting box n units) j ≡ allowance box j
 unfolding allowance afterOffer chargedAt
 charged-other box n units j h k ne =
     rw (map-set (λ (s : Standing). s .allowance) (box .standing) (n - 1) _)

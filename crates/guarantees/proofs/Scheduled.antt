@@ -7,7 +7,6 @@ use mathlib.Core.Logic.{inl, inr, ⊎-elim}
 use native.Mathlib.Omega.{arith}
 use Rattle.laws.specs.Sums.{sumOf}
 use Rattle.laws.specs.Putting.{Same}
-use Rattle.meaning.specs.declared.Offered.{Offered}
 use Rattle.meaning.specs.Numbers.{Settings}
 use Rattle.meaning.specs.Box.{Box, Packet, Link, waiting, rankIn}
 use Rattle.meaning.specs.Queues.{emptyQueues}
@@ -15,11 +14,11 @@ use Rattle.meaning.specs.Calls.{newBox, withStanding, afterOffer}
 use Rattle.meaning.specs.Step.{linkSent, moved}
 use Rattle.meaning.proofs.QueueLaws.{empty-flatten}
 use Rattle.guarantees.specs.Runs.{Departure}
-use Rattle.guarantees.proofs.Saying.{OfferSays, StepGoes}
+use Rattle.guarantees.proofs.Saying.{StepGoes}
 use Rattle.guarantees.proofs.Choosing.{Before}
 use Rattle.guarantees.proofs.Backlog.{waitingWork, linkWork, Backlog, accept-keeps}
 use Rattle.guarantees.proofs.Sending.{take-keeps, send-keeps, idle-keeps}
-use Rattle.guarantees.proofs.Moves.{Move, refused, joins, accepts, idles, sends, departs, newPacket, Grows, move-grows, rank-stays}
+use Rattle.guarantees.proofs.Moves.{Move, refused, joins, accepts, idles, sends, departs, newPacket, Grows, move-grows, rank-stays, accepting, AcceptSays}
 use Rattle.guarantees.proofs.Effects.{accepted-put, Taking, nothing, takes, carrying, taking, stepped-same}
 use Rattle.guarantees.proofs.Known.{Known}
 
@@ -68,13 +67,13 @@ scheduled-steps box H go g k s q closed =
         (subst (λ (l : Link). Backlog q (box .counter) (waiting box) l H) e b)
 
 -- An accepted packet keeps the fact.
-scheduled-accepts : (box : Box) (H : List Packet) (n units : ℕ) → OfferSays box n units (Offered.Accepted (suc (box .accepted))) →
-    Grows box (afterOffer box n units (Offered.Accepted (suc (box .accepted)))) → Known box H → Scheduled box H →
-    Scheduled (afterOffer box n units (Offered.Accepted (suc (box .accepted)))) (H ++ (newPacket box n units ∷ []))
+scheduled-accepts : (box : Box) (H : List Packet) (n units : ℕ) → AcceptSays box n units →
+    Grows box (accepting box n units) → Known box H → Scheduled box H →
+    Scheduled (accepting box n units) (H ++ (newPacket box n units ∷ []))
 unfolding afterOffer
 scheduled-accepts box H n units says g k s q closed =
     let before = s q (closed-before box _ H _ q g k (λ x m. Memᴰ·append-left (newPacket box n units ∷ []) m) closed) in
-    accept-keeps q (box .counter) (waiting box) (waiting (afterOffer box n units (Offered.Accepted (suc (box .accepted)))))
+    accept-keeps q (box .counter) (waiting box) (waiting (accepting box n units))
     (box .link) H (newPacket box n units) (accepted-put box (says .0) n units (says .1)) refl
     (λ x m. k .packets-ok x (k .waiting-known x m) .units-least) (k .link-known) before
 
