@@ -1,6 +1,7 @@
 -- Facts about numbers and lists that no document names, one place for all crates.
 pub mod Division
 pub mod Finding
+pub mod Found
 pub mod Gaining
 pub mod Groups
 pub mod Lists

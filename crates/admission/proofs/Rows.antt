@@ -1,0 +1,161 @@
+-- Sums and largest values over the rows, one row more at a time.
+use Prim.Native.Nat.{ℕ, zero, suc, _+_, _*_, _-_, _/_, _≤_, _<_, max}
+use mathlib.Core.Path.{_≡_, refl, sym, ap, _∙_}
+use mathlib.Core.Bool.{Bool, true, false, cond, not, _&&_, _||_, and-eq-true-iff}
+use mathlib.Core.List.{List, [], _∷_, _++_, map, map-append}
+use native.Mathlib.Nat.{mul-le-mul, div-le-self, max-comm}
+use native.Mathlib.Omega.{arith}
+use lib.ListN.{length}
+use lib.Dec.{leb, ltb}
+use borrow.Author.Tests.{le-leb, lt-leb, leb-true}
+use Rattle.laws.specs.Series.{series, series-last, series-append}
+use Rattle.laws.specs.Sums.{sumOf, largestOf}
+use Rattle.laws.specs.SumLaws.{sum-append}
+use Rattle.laws.specs.Tests.{same-test, bool-cases}
+use Rattle.meaning.specs.Numbers.{Settings, Connection, bound, connectionAllowed}
+use Rattle.meaning.specs.Admission.{term, sumAt, inTheWay, eleven, twelveRange, twelve, conditionAt, rate}
+use Rattle.meaning.specs.Box.{Standing}
+use Rattle.meaning.proofs.Facts.{connection-facts}
+use Rattle.words.specs.Places.{word}
+use Rattle.words.specs.Contents.{standingAt, standings, settingsAt}
+use Rattle.admission.specs.declared.Asked.{Asked}
+use Rattle.admission.specs.Asking.{Ready, Allowed, connectionOf, askedAt, withAsked, wayTerm}
+use Rattle.admission.proofs.Tables.{cycle-is, cycle-most}
+
+-- What the connections in the first n rows asked for.
+unfoldable pub rowsTo : List ℕ → ℕ → List Connection
+rowsTo ws n = map (λ s. s .asked) (series (standingAt ws) 6 12 n)
+
+row-last : (ws : List ℕ) (n : ℕ) → rowsTo ws (suc n) ≡ rowsTo ws n ++ (askedAt ws n ∷ [])
+unfolding rowsTo
+row-last ws n = ap (map (λ (s : Standing). s .asked)) (series-last (standingAt ws) 6 12 n) ∙ map-append (λ (s : Standing). s .asked) (series (standingAt ws) 6 12 n) (standingAt ws (12 + 6 * n) ∷ [])
+
+no-rows : (ws : List ℕ) → rowsTo ws 0 ≡ []
+unfolding rowsTo series
+no-rows ws = refl
+
+pub with-asked : (ws : List ℕ) (c : Asked) → withAsked ws c ≡ rowsTo ws (word ws 11) ++ (connectionOf c ∷ [])
+unfolding withAsked standings rowsTo
+with-asked ws c = refl
+
+module _ (f : Connection → ℕ) (ws : List ℕ) where
+  sum-one-more : (l : List Connection) (a : Connection) → sumOf f (l ++ (a ∷ [])) ≡ sumOf f l + f a
+  unfolding sumOf
+  sum-one-more l a = sum-append f l (a ∷ []) ∙ (let z : f a + 0 ≡ f a = omega arith in ap (λ n. sumOf f l + n) z)
+
+  pub sum-none : sumOf f (rowsTo ws 0) ≡ 0
+  unfolding sumOf
+  sum-none = ap (sumOf f) (no-rows ws)
+
+  pub sum-next : (i : ℕ) → sumOf f (rowsTo ws (suc i)) ≡ sumOf f (rowsTo ws i) + f (askedAt ws i)
+  sum-next i = ap (sumOf f) (row-last ws i) ∙ sum-one-more (rowsTo ws i) (askedAt ws i)
+
+  pub sum-with : (c : Asked) → sumOf f (withAsked ws c) ≡ sumOf f (rowsTo ws (word ws 11)) + f (connectionOf c)
+  sum-with c = ap (sumOf f) (with-asked ws c) ∙ sum-one-more (rowsTo ws (word ws 11)) (connectionOf c)
+
+  -- the sum over some rows is at most that over more
+  pub sum-partial : (i k : ℕ) → sumOf f (rowsTo ws i) ≤ sumOf f (rowsTo ws (k + i))
+  sum-partial i zero = let z : 0 + i ≡ i = omega arith in rw z (omega arith)
+  sum-partial i (suc k) =
+      let z : suc k + i ≡ suc (k + i) = omega arith in
+      let a = sum-partial i k in
+      let b = sum-next (k + i) in
+      rw z (omega arith)
+
+  largest-one-more : (l : List Connection) (a : Connection) → largestOf f (l ++ (a ∷ [])) ≡ max (largestOf f l) (f a)
+  unfolding largestOf
+  largest-one-more [] a = omega arith
+  largest-one-more (b ∷ l) a = let e = largest-one-more l a in rw e (omega arith)
+
+  pub largest-none : largestOf f (rowsTo ws 0) ≡ 0
+  unfolding largestOf
+  largest-none = ap (largestOf f) (no-rows ws)
+
+  pub largest-next : (i : ℕ) → largestOf f (rowsTo ws (suc i)) ≡ max (largestOf f (rowsTo ws i)) (f (askedAt ws i))
+  largest-next i = ap (largestOf f) (row-last ws i) ∙ largest-one-more (rowsTo ws i) (askedAt ws i)
+
+  pub largest-with : (c : Asked) → largestOf f (withAsked ws c) ≡ max (largestOf f (rowsTo ws (word ws 11))) (f (connectionOf c))
+  largest-with c = ap (largestOf f) (with-asked ws c) ∙ largest-one-more (rowsTo ws (word ws 11)) (connectionOf c)
+
+-- What a connection adds to the rate.
+abbrev pub rateTerm : ℕ → Connection → ℕ
+rateTerm cycle c = c .longest * (cycle / c .period)
+
+pub rate-is : (ws : List ℕ) (c : Asked) → sumOf (rateTerm (word ws 1)) (withAsked ws c) ≡ rate (settingsAt ws) (withAsked ws c)
+unfolding rate settingsAt
+rate-is ws c = refl
+
+-- It is at most 64 x 4,096.
+pub rate-most : (ws : List ℕ) (c : Connection) → Ready ws → connectionAllowed (settingsAt ws) c ≡ true → rateTerm (word ws 1) c ≤ 262144
+rate-most ws c r a =
+    let f = connection-facts (settingsAt ws) c a in
+    let m = cycle-most ws r in
+    let q = div-le-self (word ws 1) (c .period) in
+    let d : word ws 1 / c .period ≤ 4096 = omega arith in
+    let p = mul-le-mul (f .longest-most) d in
+    omega arith
+
+-- (11) and (12) at t as one test.
+all-silent : (set : Settings) (t : ℕ) (cs : List Connection) → twelveRange set t ≡ false → largestOf (wayTerm set t) cs ≡ 0
+unfolding largestOf wayTerm
+all-silent set t [] e = refl
+all-silent set t (c ∷ cs) e = let i = all-silent set t cs e in rw (e, i) (omega arith)
+
+all-speak : (set : Settings) (t : ℕ) (cs : List Connection) → twelveRange set t ≡ true → largestOf (wayTerm set t) cs ≡ inTheWay set cs t
+unfolding largestOf wayTerm inTheWay
+all-speak set t [] e = refl
+all-speak set t (c ∷ cs) e = rw (e, all-speak set t cs e) refl
+
+pub one-test : (set : Settings) (cs : List Connection) (t : ℕ) → conditionAt set cs t ≡ leb (sumAt set cs t + largestOf (wayTerm set t) cs) t
+unfolding conditionAt eleven twelve
+one-test set cs t = go (twelveRange set t) refl
+  where
+    go : (b : Bool) → twelveRange set t ≡ b
+        → (leb (sumAt set cs t) t && (not b || leb (sumAt set cs t + inTheWay set cs t) t)) ≡ leb (sumAt set cs t + largestOf (wayTerm set t) cs) t
+    go false e =
+        let z : sumAt set cs t + largestOf (wayTerm set t) cs ≡ sumAt set cs t = (let y = all-silent set t cs e in omega arith) in
+        rw z (mathlib.Core.Bool.and-true (leb (sumAt set cs t) t))
+    go true e =
+        rw (all-speak set t cs e)
+        (same-test (leb (sumAt set cs t) t && leb (sumAt set cs t + inTheWay set cs t) t) (leb (sumAt set cs t + inTheWay set cs t) t)
+        (λ h. and-eq-true-iff (leb (sumAt set cs t) t) (leb (sumAt set cs t + inTheWay set cs t) t) .0 h .1)
+        (λ h.
+        let l : sumAt set cs t + inTheWay set cs t ≤ t = leb-true _ _ h in
+        and-eq-true-iff (leb (sumAt set cs t) t) (leb (sumAt set cs t + inTheWay set cs t) t) .1 (le-leb (sumAt set cs t) t (omega arith), h)))
+
+module _ (ws : List ℕ) (c : Asked) (t : ℕ) where
+  abbrev theTerm : Connection → ℕ
+  theTerm = term (settingsAt ws) t
+
+  abbrev theWay : Connection → ℕ
+  theWay = wayTerm (settingsAt ws) t
+
+  -- the condition holds where the sum and the packet in the way are at most t
+  pub holds-at : theTerm (connectionOf c) + sumOf theTerm (rowsTo ws (word ws 11)) + max (theWay (connectionOf c)) (largestOf theWay (rowsTo ws (word ws 11))) ≤ t
+      → conditionAt (settingsAt ws) (withAsked ws c) t ≡ true
+  unfolding sumAt
+  holds-at h =
+      let s = sum-with theTerm ws c in
+      let w = largest-with theWay ws c in
+      let m = max-comm (theWay (connectionOf c)) (largestOf theWay (rowsTo ws (word ws 11))) in
+      one-test (settingsAt ws) (withAsked ws c) t ∙
+      le-leb (sumOf theTerm (withAsked ws c) + largestOf theWay (withAsked ws c)) t (omega arith)
+
+  -- and fails where they exceed t
+  pub fails-at : t < theTerm (connectionOf c) + sumOf theTerm (rowsTo ws (word ws 11)) + max (theWay (connectionOf c)) (largestOf theWay (rowsTo ws (word ws 11)))
+      → conditionAt (settingsAt ws) (withAsked ws c) t ≡ false
+  unfolding sumAt
+  fails-at h =
+      let s = sum-with theTerm ws c in
+      let w = largest-with theWay ws c in
+      let m = max-comm (theWay (connectionOf c)) (largestOf theWay (rowsTo ws (word ws 11))) in
+      one-test (settingsAt ws) (withAsked ws c) t ∙
+      lt-leb (sumOf theTerm (withAsked ws c) + largestOf theWay (withAsked ws c)) t (omega arith)
+
+  -- and fails where the sum over some rows already exceeds t
+  pub fails-early : (i : ℕ) → i ≤ word ws 11 → t < theTerm (connectionOf c) + sumOf theTerm (rowsTo ws i) → conditionAt (settingsAt ws) (withAsked ws c) t ≡ false
+  fails-early i k h =
+      let e : word ws 11 - i + i ≡ word ws 11 = omega arith in
+      let p = sum-partial theTerm ws i (word ws 11 - i) in
+      let q : sumOf theTerm (rowsTo ws (word ws 11 - i + i)) ≡ sumOf theTerm (rowsTo ws (word ws 11)) = ap (λ n. sumOf theTerm (rowsTo ws n)) e in
+      fails-at (omega arith)

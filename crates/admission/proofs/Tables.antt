@@ -1,0 +1,147 @@
+-- What allowed tables say of the numbers that the search computes with.
+use Prim.Native.Nat.{ℕ, suc, _+_, _*_, _-_, _/_, _≤_, _<_}
+use mathlib.Core.Path.{_≡_, refl, sym, ap, _∙_}
+use mathlib.Core.Bool.{Bool, true, false, cond}
+use mathlib.Core.List.{List}
+use native.Mathlib.Nat.{mul-le-mul-right, mul-le-mul, div-le-self}
+use native.Mathlib.Omega.{arith}
+use lib.ListN.{length, getD}
+use borrow.Author.Tests.{le-leb, lt-leb, eq-eqb, ne-eqb, lt-ltb, le-ltb}
+use Rattle.laws.specs.Series.{series, length-series, getD-series}
+use Rattle.meaning.specs.Numbers.{Settings, Connection, classCount, factor, largestFactor, bound, largestBound, connectionAllowed}
+use Rattle.meaning.specs.Envelope.{mayHave, envelope, delayed}
+use Rattle.meaning.specs.Admission.{term, twelveRange}
+use Rattle.meaning.proofs.Facts.{SettingsFacts, ConnectionFacts, settings-facts, connection-facts}
+use Rattle.meaning.proofs.KeptByOffer.{factor-within}
+use Rattle.words.specs.Places.{word}
+use Rattle.words.specs.Contents.{settingsAt}
+use Rattle.admission.specs.declared.Asked.{Asked}
+use Rattle.admission.specs.Asking.{Ready, Allowed, Small, connectionOf, askedAt, wayTerm}
+
+pub class-count : (ws : List ℕ) → classCount (settingsAt ws) ≡ word ws 2
+unfolding classCount settingsAt
+class-count ws = length-series (λ i. word ws i) 1 3 (word ws 2)
+
+pub interval-is : (ws : List ℕ) → settingsAt ws .interval ≡ word ws 0
+unfolding settingsAt
+interval-is ws = refl
+
+pub cycle-is : (ws : List ℕ) → settingsAt ws .cycle ≡ word ws 1
+unfolding settingsAt
+cycle-is ws = refl
+
+-- the factor of class k lies at word 2 + k
+factor-is : (ws : List ℕ) (k : ℕ) → 1 ≤ k → k ≤ word ws 2 → factor (settingsAt ws) k ≡ word ws (2 + k)
+unfolding factor settingsAt
+factor-is ws k h l =
+    let e : 3 + 1 * (k - 1) ≡ 2 + k = omega arith in
+    getD-series (λ i. word ws i) 1 3 (word ws 2) (k - 1) 0 (omega arith) ∙ ap (λ i. word ws i) e
+
+pub bound-is : (ws : List ℕ) (k : ℕ) → 1 ≤ k → k ≤ word ws 2 → bound (settingsAt ws) k ≡ word ws (2 + k) * word ws 0
+unfolding bound settingsAt
+bound-is ws k h l = ap (λ f. f * word ws 0) (factor-is ws k h l)
+
+pub facts : (ws : List ℕ) → Ready ws → SettingsFacts (settingsAt ws)
+facts ws r = settings-facts (settingsAt ws) (r .settings)
+
+pub bound-most : (ws : List ℕ) (k : ℕ) → Ready ws → 1 ≤ k → k ≤ word ws 2 → bound (settingsAt ws) k ≤ 1024
+unfolding bound largestBound largestFactor
+bound-most ws k r h l =
+    let f = facts ws r in
+    let c = class-count ws in
+    let m = mul-le-mul-right (settingsAt ws .interval) (factor-within (settingsAt ws) k f h (omega arith)) in
+    let b = f .bound-most in
+    omega arith
+
+pub classes-within : (ws : List ℕ) → Ready ws → (1 ≤ word ws 2) × (word ws 2 ≤ 8)
+classes-within ws r =
+    let f = facts ws r in
+    let c = class-count ws in
+    let a = f .classes-least in
+    let b = f .classes-most in
+    (omega arith, omega arith)
+
+-- the connection's facts, as the code has it
+pub asked-facts : (ws : List ℕ) (c : Asked) → Allowed ws c → ConnectionFacts (settingsAt ws) (connectionOf c)
+asked-facts ws c a = connection-facts (settingsAt ws) (connectionOf c) a
+
+pub asked-small : (ws : List ℕ) (c : Asked) → Allowed ws c → Small c
+asked-small ws c a =
+    let f = asked-facts ws c a in
+    record { longest-most = f .longest-most; burst-most = f .burst-most; period-least = f .period-least }
+
+pub asked-class : (ws : List ℕ) (c : Asked) → Allowed ws c → (1 ≤ c .class) × (c .class ≤ word ws 2)
+asked-class ws c a =
+    let f = asked-facts ws c a in
+    let k = class-count ws in
+    let h = f .class-most in
+    (f .class-least, omega arith)
+
+-- a product of numbers up to 64 and up to 6,064
+pub product-most : (s n : ℕ) → s ≤ 64 → n ≤ 6064 → s * n ≤ 400000
+product-most s n h k = let m = mul-le-mul h k in omega arith
+
+-- The bound of a class, as the code computes it.
+pub bound-code : (ws : List ℕ) (k : ℕ) → Ready ws → 1 ≤ k → k ≤ word ws 2
+    → (word ws (2 + k) * word ws 0 ≡ bound (settingsAt ws) k) × (word ws (2 + k) * word ws 0 ≤ 1024)
+bound-code ws k r h l =
+    let e = bound-is ws k h l in
+    let m = bound-most ws k r h l in
+    (sym e, omega arith)
+
+-- E(t - d), as the code computes it.
+pub delayed-none : (E : ℕ → ℕ) (d t : ℕ) → t < d → 0 ≡ delayed E d t
+unfolding delayed
+delayed-none E d t h = rw (lt-leb d t h) refl
+
+pub delayed-some : (E : ℕ → ℕ) (d t : ℕ) → d ≤ t → E (t - d) ≡ delayed E d t
+unfolding delayed
+delayed-some E d t h = rw (le-leb d t h) refl
+
+pub envelope-is : (c : Asked) (t : ℕ) → c .longest * (c .burst + t / c .period) ≡ envelope (connectionOf c) t
+unfolding envelope mayHave
+envelope-is c t = refl
+
+pub count-most : (c : Asked) (d t : ℕ) → Small c → t ≤ 6000 → c .burst + (t - d) / c .period ≤ 6064
+count-most c d t s h = let q = div-le-self (t - d) (c .period) in let b = s .burst-most in omega arith
+
+pub units-most : (c : Asked) (d t : ℕ) → Small c → t ≤ 6000 → c .longest * (c .burst + (t - d) / c .period) ≤ 400000
+units-most c d t s h = product-most (c .longest) (c .burst + (t - d) / c .period) (s .longest-most) (count-most c d t s h)
+
+-- What a connection adds, by its class.
+pub term-first : (ws : List ℕ) (c : Connection) (t : ℕ) → c .class ≡ 1 → delayed (envelope c) (bound (settingsAt ws) (c .class)) t ≡ term (settingsAt ws) t c
+unfolding term
+term-first ws c t e = rw (eq-eqb (c .class) 1 e) refl
+
+pub term-above : (ws : List ℕ) (c : Connection) (t : ℕ) → (c .class ≡ 1 → ⊥)
+    → delayed (envelope c) (bound (settingsAt ws) (c .class)) (t + word ws 0) ≡ term (settingsAt ws) t c
+unfolding term settingsAt
+term-above ws c t e = rw (ne-eqb (c .class) 1 e) refl
+
+-- What a connection counts for as the packet in the way.
+pub way-silent : (ws : List ℕ) (c : Connection) (t : ℕ) → twelveRange (settingsAt ws) t ≡ false → 0 ≡ wayTerm (settingsAt ws) t c
+unfolding wayTerm
+way-silent ws c t e = rw e refl
+
+pub way-longest : (ws : List ℕ) (c : Connection) (t : ℕ) → twelveRange (settingsAt ws) t ≡ true → t + word ws 0 < bound (settingsAt ws) (c .class)
+    → c .longest ≡ wayTerm (settingsAt ws) t c
+unfolding wayTerm settingsAt
+way-longest ws c t e h = rw (e, lt-ltb (t + word ws 0) (bound (settingsAt ws) (c .class)) h) refl
+
+pub way-nothing : (ws : List ℕ) (c : Connection) (t : ℕ) → bound (settingsAt ws) (c .class) ≤ t + word ws 0 → 0 ≡ wayTerm (settingsAt ws) t c
+unfolding wayTerm settingsAt
+way-nothing ws c t h = rw (le-ltb (t + word ws 0) (bound (settingsAt ws) (c .class)) h) (either (twelveRange (settingsAt ws) t))
+  where
+    either : (b : Bool) → 0 ≡ cond b (cond false (c .longest) 0) 0
+    either true = refl
+    either false = refl
+
+pub interval-most : (ws : List ℕ) → Ready ws → word ws 0 ≤ 256
+interval-most ws r = let e = interval-is ws in let m = facts ws r .interval-most in omega arith
+
+pub cycle-most : (ws : List ℕ) → Ready ws → word ws 1 ≤ 4096
+cycle-most ws r = let e = cycle-is ws in let m = facts ws r .cycle-most in omega arith
+
+-- A row that was read is that of an allowed connection.
+pub row-allowed : (ws : List ℕ) (i : ℕ) (c : Asked) → Ready ws → i < word ws 11 → connectionOf c ≡ askedAt ws i → Allowed ws c
+row-allowed ws i c r h e = rw e (r .each i h)

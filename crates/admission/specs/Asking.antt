@@ -1,0 +1,52 @@
+-- Connections as the code has them, the words that the search asks for, and what it finds.
+use Prim.Native.Nat.{ℕ, _+_, _*_, _≤_, _<_}
+use mathlib.Core.Path.{_≡_}
+use mathlib.Core.Bool.{true, cond}
+use mathlib.Core.List.{List, [], _∷_, _++_, map}
+use lib.ListN.{length}
+use lib.Dec.{ltb}
+use Rattle.laws.specs.Search.{Search, failsAt, holds}
+use Rattle.meaning.specs.Numbers.{Settings, Connection, bound, settingsAllowed, connectionAllowed}
+use Rattle.meaning.specs.Admission.{twelveRange}
+use Rattle.words.specs.Places.{boxWords, word}
+use Rattle.words.specs.Contents.{settingsAt, standingAt, standings}
+use Rattle.admission.specs.declared.Asked.{Asked}
+use Rattle.admission.specs.declared.Found.{Found}
+
+-- The connection of document 01 that is asked for.
+abbrev pub connectionOf : Asked → Connection
+connectionOf c = record { class = c .class; longest = c .longest; burst = c .burst; period = c .period }
+
+-- What the connection in row i asked for.
+abbrev pub askedAt : List ℕ → ℕ → Connection
+askedAt ws i = standingAt ws (12 + 6 * i) .asked
+
+-- "the set with the newcomer".
+unfoldable pub withAsked : List ℕ → Asked → List Connection
+withAsked ws c = map (λ s. s .asked) (standings ws) ++ (connectionOf c ∷ [])
+
+-- The words have all tables, with numbers that are allowed.
+pub record Ready (ws : List ℕ) : Type 0 where
+  pub enough : boxWords ≤ length ws
+  pub settings : settingsAllowed (settingsAt ws) ≡ true
+  pub rows : word ws 11 ≤ 32
+  pub each : (i : ℕ) → i < word ws 11 → connectionAllowed (settingsAt ws) (askedAt ws i) ≡ true
+
+-- The newcomer's numbers are allowed.
+abbrev pub Allowed : List ℕ → Asked → Type 0
+Allowed ws c = connectionAllowed (settingsAt ws) (connectionOf c) ≡ true
+
+-- Numbers that are small enough for the sums.
+pub record Small (c : Asked) : Type 0 where
+  pub longest-most : c .longest ≤ 64
+  pub burst-most : c .burst ≤ 64
+  pub period-least : 1 ≤ c .period
+
+-- What one connection counts for as the packet in the way at t, nothing where (12) does not speak of t.
+unfoldable pub wayTerm : Settings → ℕ → Connection → ℕ
+wayTerm set t c = cond (twelveRange set t) (cond (ltb (t + set .interval) (bound set (c .class))) (c .longest) 0) 0
+
+-- What was found.
+abbrev pub searchOf : Found → Search
+searchOf (Found.FailsAt t) = failsAt t
+searchOf Found.Holds = holds

@@ -1,0 +1,167 @@
+// The rate and the search for the first failing t, over the connections in words. Document 01, "Admission".
+ghost use mathlib.Core.Path.{_≡_};
+ghost use Prim.Native.Nat.{_≤_, _<_, max};
+ghost use Rattle.meaning.specs.Numbers.{bound};
+ghost use Rattle.meaning.specs.Envelope.{envelope, delayed as delayedIs};
+ghost use Rattle.meaning.specs.Admission.{term, rate as rateIs, twelveRange, finiteSearch};
+ghost use mathlib.Core.Bool.{_&&_};
+ghost use Prim.Native.Nat.{_+_};
+ghost use lib.Dec.{leb, ltb};
+ghost use Rattle.words.specs.Places.{word};
+ghost use Rattle.words.specs.Contents.{settingsAt};
+ghost use Rattle.admission.specs.Asking.{Ready, Allowed, Small, connectionOf, askedAt, withAsked, wayTerm, searchOf};
+
+// What a connection asks for: its class, longest packet s, burst b and period T.
+pub struct Asked {
+    pub class: u32,
+    pub longest: u32,
+    pub burst: u32,
+    pub period: u32,
+}
+
+// What the search finds: the first t that fails, or that none does.
+pub enum Found {
+    FailsAt(u32),
+    Holds,
+}
+
+// What the connection in row i asked for.
+pub fn asked_at(ws: &[u32], i: usize) -> Asked
+    requires { ⌜ Ready (now ws) × (i < 32) ⌝ }
+    ensures { λ r. ⌜ connectionOf r ≡ askedAt (now (ws .entry)) i ⌝ }
+{
+    let at = 12 + 6 * i;
+    Asked {
+        class: ws[at],
+        longest: ws[at + 1],
+        burst: ws[at + 2],
+        period: ws[at + 3],
+    }
+}
+
+// E(t - d): nothing where d is above t.
+fn delayed(c: Asked, d: u32, t: u32) -> u32
+    requires { ⌜ Small c × (t ≤ 6000) ⌝ }
+    ensures { λ r. ⌜ (r ≡ delayedIs (envelope (connectionOf c)) d t) × (r ≤ 400000) ⌝ }
+{
+    if t < d {
+        return 0;
+    }
+    c.longest * (c.burst + (t - d) / c.period)
+}
+
+// The bound of a class.
+fn bound_of(ws: &[u32], class: u32) -> u32
+    requires { ⌜ Ready (now ws) × ((1 ≤ class) × (class ≤ word (now ws) 2)) ⌝ }
+    ensures { λ r. ⌜ (r ≡ bound (settingsAt (now (ws .entry))) class) × (r ≤ 1024) ⌝ }
+{
+    let at = class as usize;
+    ws[2 + at] * ws[0]
+}
+
+// What one connection adds to the sum at t.
+fn term_of(ws: &[u32], c: Asked, t: u32) -> u32
+    requires { ⌜ Ready (now ws) × (Allowed (now ws) c × (t ≤ 5500)) ⌝ }
+    ensures { λ r. ⌜ (r ≡ term (settingsAt (now (ws .entry))) t (connectionOf c)) × (r ≤ 400000) ⌝ }
+{
+    let class = c.class;
+    let d = bound_of(ws, class);
+    if class == 1 {
+        return delayed(c, d, t);
+    }
+    delayed(c, d, t + ws[0])
+}
+
+// What one connection counts for as the packet in the way at t: its longest packet, where (12) speaks of t and its bound exceeds t + D.
+fn way_of(ws: &[u32], c: Asked, t: u32, speaks: bool) -> u32
+    requires { ⌜ Ready (now ws) × (Allowed (now ws) c × ((t ≤ 5500) × (speaks ≡ twelveRange (settingsAt (now ws)) t))) ⌝ }
+    ensures { λ r. ⌜ (r ≡ wayTerm (settingsAt (now (ws .entry))) t (connectionOf c)) × (r ≤ 64) ⌝ }
+{
+    if !speaks {
+        return 0;
+    }
+    let class = c.class;
+    let d = bound_of(ws, class);
+    if t + ws[0] < d {
+        return c.longest;
+    }
+    0
+}
+
+// The larger of two numbers.
+fn larger(a: u32, b: u32) -> u32
+    ensures { λ r. ⌜ r ≡ max a b ⌝ }
+{
+    if a <= b {
+        return b;
+    }
+    a
+}
+
+// Whether (12) speaks of t: d1 <= t < dP - D.
+fn speaks_of(first: u32, last: u32, interval: u32, t: u32) -> bool
+    requires { ⌜ (t ≤ 5500) × (interval ≤ 256) ⌝ }
+    ensures { λ r. ⌜ r ≡ (leb first t && ltb (t + interval) last) ⌝ }
+{
+    if t < first {
+        return false;
+    }
+    t + interval < last
+}
+
+// The sum of s x (M/T), with the newcomer.
+pub fn rate(ws: &[u32], c: Asked) -> u32
+    requires { ⌜ Ready (now ws) × Allowed (now ws) c ⌝ }
+    ensures { λ r. ⌜ r ≡ rateIs (settingsAt (now (ws .entry))) (withAsked (now (ws .entry)) c) ⌝ }
+{
+    let n = ws[11] as usize;
+    let cycle = ws[1];
+    let mut sum = c.longest * (cycle / c.period);
+    let mut i = 0;
+    while i < n {
+        let row = asked_at(ws, i);
+        sum += row.longest * (cycle / row.period);
+        i += 1;
+    }
+    sum
+}
+
+// The first t of 0 to dP + M - 1 at which (11) or (12) fails, with the newcomer.
+pub fn first_failing(ws: &[u32], c: Asked) -> Found
+    requires { ⌜ Ready (now ws) × Allowed (now ws) c ⌝ }
+    ensures { λ r. ⌜ searchOf r ≡ finiteSearch (settingsAt (now (ws .entry))) (withAsked (now (ws .entry)) c) ⌝ }
+{
+    let n = ws[11] as usize;
+    let interval = ws[0];
+    let first = bound_of(ws, 1);
+    let last = bound_of(ws, ws[2]);
+    let end = last + ws[1];
+    let mut t: u32 = 0;
+    let found = 'search: loop {
+        if end <= t {
+            break end;
+        }
+        let speaks = speaks_of(first, last, interval, t);
+        let mut sum = term_of(ws, c, t);
+        let mut way = way_of(ws, c, t, speaks);
+        let mut i = 0;
+        while i < n {
+            let row = asked_at(ws, i);
+            sum += term_of(ws, row, t);
+            way = larger(way, way_of(ws, row, t, speaks));
+            if t < sum {
+                break 'search t;
+            }
+            i += 1;
+        }
+        if t < sum + way {
+            break t;
+        }
+        t += 1;
+    };
+    if found < end {
+        Found::FailsAt(found)
+    } else {
+        Found::Holds
+    }
+}

@@ -1,0 +1,2 @@
+-- What the contracts of the lines cite.
+pub mod Put
