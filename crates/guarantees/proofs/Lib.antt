@@ -1,4 +1,5 @@
--- The theorems about runs.
+-- The theorems about admission and about runs. What is promised stands in Admitting, Statements, Turning and Isolated; the rest is the
+-- way there: AnyEnvelope and WithoutEnd for the test, Backlog to Scheduled for the link, Limits to Deadline for what can be ahead.
 pub mod Classes
 pub mod AnyEnvelope
 pub mod WithoutEnd
@@ -23,6 +24,6 @@ pub mod Once
 pub mod Order
 pub mod Always
 pub mod Statements
-pub mod Isolated
 pub mod Turning
+pub mod Isolated
 pub mod WorkedRun
