@@ -1,24 +1,26 @@
 -- Document 01, "Admission", of a box: a connection is taken exactly when (11) and (12) hold at every t without end.
 use Prim.Native.Nat.{ℕ, zero, suc, _+_, _≤_, _<_}
 use mathlib.Core.Path.{_≡_, refl, sym, _∙_, ap}
-use mathlib.Core.Bool.{Bool, true, false, cond, not, true≢false}
-use mathlib.Core.List.{List, [], _∷_, _++_, List·Memᴰ, List·Memᴰ·append-cases, List·Memᴰ·eq-of-singleton}
-use mathlib.Core.Logic.{_⊎_, inl, inr, ⊎-elim, _↔_}
-use lib.Dec.{leb}
+use mathlib.Core.Bool.{true, false, true≢false}
+use mathlib.Core.List.{List, [], _∷_, List·Memᴰ, List·Memᴰ·append-cases, List·Memᴰ·eq-of-singleton}
+use mathlib.Core.Logic.{⊎-elim, _↔_}
 use lib.ListN.{length}
-use borrow.Author.Tests.{leb-true, leb-false, le-leb, lt-leb}
+use borrow.Author.Tests.{leb-true, lt-leb, eq-eqb, ne-eqb}
+use native.Mathlib.Decide.{ℕ-discrete}
 use native.Mathlib.Omega.{arith}
-use Rattle.laws.specs.Tests.{every, every-at, bool-cases}
-use Rattle.laws.specs.Search.{Search, failsAt, holds}
+use Rattle.laws.specs.SumLaws.{sum-zero}
+use Rattle.laws.specs.Tests.{every-at}
 use Rattle.laws.specs.Finding.{Least, first-failing-fails, first-failing-holds}
 use Rattle.meaning.specs.declared.Admitted.{Admitted}
-use Rattle.meaning.specs.Numbers.{Settings, Connection, connectionAllowed, mostConnections, largestBound}
-use Rattle.meaning.specs.Admission.{conditionAt, HoldsWithoutEnd, rateHolds, finiteSearch}
+use Rattle.meaning.specs.Numbers.{Connection, connectionAllowed, mostConnections, Settings, bound}
+use Rattle.meaning.specs.Envelope.{delayed}
+use Rattle.meaning.specs.Admission.{term, sumAt, conditionAt, HoldsWithoutEnd, finiteSearch}
 use Rattle.meaning.specs.Box.{Box, connections, sound}
-use Rattle.meaning.specs.Calls.{withNewcomer, searchAnswer, admissionAnswer}
-use Rattle.meaning.proofs.Facts.{ConnectionFacts, connection-facts, SettingsFacts, settings-facts, SoundFacts, sound-facts}
+use Rattle.meaning.specs.Calls.{withNewcomer, admissionAnswer}
+use Rattle.meaning.proofs.Facts.{ConnectionFacts, connection-facts, settings-facts, sound-facts, SettingsFacts}
 use Rattle.guarantees.proofs.Saying.{AdmissionSays, admission-says}
-use Rattle.guarantees.proofs.WithoutEnd.{envelope-laws, all-slots-follow, some-slot-fails}
+use Rattle.guarantees.proofs.Classes.{bound-least, bound-apart}
+use Rattle.guarantees.proofs.WithoutEnd.{condition-test, all-slots-follow, some-slot-fails}
 
 -- The connections that stand in a sound box keep the table of numbers.
 pub standing-facts : (box : Box) → sound box ≡ true → (c : Connection) → List·Memᴰ c (connections box) → ConnectionFacts (box .settings) c
@@ -40,7 +42,7 @@ module _ (box : Box) (c : Connection) where
       let says : AdmissionSays box c (Admitted.Taken n) = rw e at (admission-says box c) in
       let f = newcomer-facts box (says .0) c (says .1) in
       all-slots-follow (box .settings) (settings-facts (box .settings) (sound-facts box (says .0) .settings-allowed)) (withNewcomer box c)
-      f (λ d m. envelope-laws (box .settings) d (f d m)) (says .3) (first-failing-holds _ _ (says .4))
+      f (says .3) (first-failing-holds _ _ (says .4))
 
   -- "the t given with 6 is the least that fails".
   pub least-that-fails : (t : ℕ) → admissionAnswer box c ≡ Admitted.ConditionFails t → Least (conditionAt (box .settings) (withNewcomer box c)) 0 t
@@ -55,7 +57,7 @@ module _ (box : Box) (c : Connection) where
       let says : AdmissionSays box c Admitted.RateExceeded = rw e at (admission-says box c) in
       let f = newcomer-facts box (says .0) c (says .1) in
       some-slot-fails (box .settings) (settings-facts (box .settings) (sound-facts box (says .0) .settings-allowed)) (withNewcomer box c)
-      f (λ d m. envelope-laws (box .settings) d (f d m)) (says .3)
+      f (says .3)
 
   -- With the numbers in range and room in the table, a connection is taken exactly when (11) and (12) hold at every t from 0 without end.
   pub taken-exactly-when : sound box ≡ true → connectionAllowed (box .settings) c ≡ true → length (box .standing) < mostConnections →
@@ -75,3 +77,35 @@ module _ (box : Box) (c : Connection) where
       back h (Admitted.Taken n) e =
           let says : AdmissionSays box c (Admitted.Taken n) = rw e at (admission-says box c) in
           ap Admitted.Taken (says .5)
+
+-- (11) and (12) hold at 0 for every set that keeps the table of numbers.
+holds-at-zero : (set : Settings) → SettingsFacts set → (cs : List Connection) → ((c : Connection) → List·Memᴰ c cs → ConnectionFacts set c) →
+    conditionAt set cs 0 ≡ true
+holds-at-zero set f cs facts =
+    condition-test set cs 0 (record {
+      eleven-holds = (let z = none in omega arith);
+      twelve-holds = λ a b. absurd (let l = bound-least set f 1 (omega arith) (f .classes-least) in omega arith);
+    })
+  where
+    nothing-yet : (c : Connection) → List·Memᴰ c cs → term set 0 c ≡ 0
+    nothing-yet c m =
+        let k = facts c m in
+        elim (ℕ-discrete (c .class) 1) [
+          | yes e ↦ (let b = bound-least set f (c .class) (k .class-least) (k .class-most) in
+              unfold term delayed in rw (eq-eqb (c .class) 1 e, lt-leb (bound set (c .class)) 0 (omega arith)))
+          | no e ↦ (let l = k .class-least in let b = bound-apart set f (c .class) (omega arith) (k .class-most) in
+              let o = bound-least set f 1 (omega arith) (f .classes-least) in
+              unfold term delayed in rw (ne-eqb (c .class) 1 e, lt-leb (bound set (c .class)) (0 + set .interval) (omega arith)))
+        ]
+
+    none : sumAt set cs 0 ≡ 0
+    none = unfold sumAt in sum-zero (term set 0) cs nothing-yet
+
+-- The t given with 6 is at least 1, so a printed t of 0 always means that there is none.
+pub fails-after-zero : (box : Box) (c : Connection) (t : ℕ) → admissionAnswer box c ≡ Admitted.ConditionFails t → 1 ≤ t
+fails-after-zero box c zero e =
+    let says : AdmissionSays box c (Admitted.ConditionFails 0) = rw e at (admission-says box c) in
+    let z = holds-at-zero (box .settings) (settings-facts (box .settings) (sound-facts box (says .0) .settings-allowed)) (withNewcomer box c)
+    (newcomer-facts box (says .0) c (says .1)) in
+    absurd (true≢false (sym z ∙ least-that-fails box c 0 e .fails))
+fails-after-zero box c (suc t) e = omega arith

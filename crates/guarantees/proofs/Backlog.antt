@@ -1,20 +1,19 @@
 -- The scheduling fact: no envelope, no test and no class in it. `q` picks the packets that go before some packet and that packet itself,
 -- `H` is every packet accepted so far. While a packet of q is in the box, the link has worked since some slot for those packets
 -- alone, but for the rest of one other packet that was on the link before.
-use Prim.Native.Nat.{ℕ, zero, suc, _+_, _-_, _≤_, _<_}
+use Prim.Native.Nat.{ℕ, _+_, _≤_, _<_}
 use mathlib.Core.Path.{_≡_, refl, sym, _∙_, ap}
-use mathlib.Core.Bool.{Bool, true, false, cond, not, _&&_, and-eq-true-iff, true≢false}
-use mathlib.Core.List.{List, [], _∷_, _++_, List·Memᴰ, List·Memᴰ·head, List·Memᴰ·tail, List·Memᴰ·not-nil, Memᴰ·append-left, Memᴰ·append-right}
+use mathlib.Core.Bool.{Bool, true, false, not, _&&_, and-eq-true-iff, true≢false}
+use mathlib.Core.List.{List, [], _∷_, _++_, List·Memᴰ, Memᴰ·append-left}
 use mathlib.Core.Logic.{_⊎_, inl, inr, ⊎-elim}
-use lib.Dec.{leb, ltb, eqb}
-use borrow.Author.Tests.{leb-true, leb-false, le-leb}
+use lib.Dec.{leb}
+use borrow.Author.Tests.{le-leb}
 use native.Mathlib.Omega.{arith}
 use Rattle.laws.specs.Tests.{bool-cases}
-use Rattle.laws.specs.Sums.{sumOf}
-use Rattle.laws.specs.SumLaws.{given, given-true, given-false, sum-append, sum-one, sum-member}
-use Rattle.laws.specs.Putting.{Put, Same}
+use Rattle.laws.specs.Sums.{sumOf, sum-append}
+use Rattle.laws.specs.SumLaws.{given, given-true, given-false, sum-one, sum-member}
+use Rattle.laws.specs.Putting.{Put}
 use Rattle.meaning.specs.Box.{Packet, Link, free, carries}
-use Rattle.meaning.specs.Step.{linkSent}
 
 -- Units still to be sent of the packets of q that wait.
 unfoldable pub waitingWork : (Packet → Bool) → List Packet → ℕ
@@ -72,6 +71,7 @@ module _ (q : Packet → Bool) where
       let f : Packet → ℕ = λ p. given (q p && leb u (p .arrival)) (p .units) in
       sum-append f H (p ∷ []) ∙ ap (λ n. sumOf f H + n) (sum-one f p)
 
+  -- A packet in the way stays one when more is accepted.
   way-more : (u rest : ℕ) (H : List Packet) (p : Packet) → (rest ≡ 0) ⊎ InTheWay q u rest H → (rest ≡ 0) ⊎ InTheWay q u rest (H ++ (p ∷ []))
   way-more u rest H p (inl e) = inl e
   way-more u rest H p (inr v) =

@@ -1,25 +1,26 @@
 -- What the queues give: a packet joins, the lowest head is taken, the queues turn; and the head taken is the least by rank and serial.
 use Prim.Native.Nat.{ℕ, zero, suc, _+_, _/_, _≤_, _<_}
-use mathlib.Core.Path.{_≡_, refl, sym, _∙_, ap}
-use mathlib.Core.Bool.{Bool, true, false, _&&_, and-eq-true-iff}
+use mathlib.Core.Path.{_≡_, refl, _∙_, ap}
+use mathlib.Core.Bool.{Bool, true, _&&_, and-eq-true-iff}
 use mathlib.Core.List.{List, [], _∷_, _++_, map, flatten, List·Memᴰ, List·Memᴰ·head, List·Memᴰ·tail, List·Memᴰ·not-nil, List·Memᴰ·cases-cons, List·Memᴰ·append-cases, Memᴰ·map}
 use mathlib.Core.Logic.{_⊎_, inl, inr, ⊎-elim}
-use mathlib.Core.Option.{Option, none, some}
-use lib.Dec.{leb, ltb, eqb}
+use mathlib.Core.Option.{some}
+use lib.Dec.{ltb, eqb}
 use lib.ListN.{length}
 use borrow.Author.Tests.{ltb-true, eqb-true}
 use native.Mathlib.Omega.{arith}
 use Rattle.laws.specs.Tests.{every, every-at}
-use Rattle.laws.specs.Sums.{sumOf}
-use Rattle.laws.specs.SumLaws.{sum-append, sum-one}
-use Rattle.laws.specs.Putting.{Put, Same, same-refl, sum-flatten-last}
+use Rattle.laws.specs.Sums.{sumOf, sum-append}
+use Rattle.laws.specs.SumLaws.{sum-one}
+use Rattle.laws.specs.Putting.{Put, Same, sum-flatten-last}
 use Rattle.meaning.specs.Numbers.{risingAbove}
 use Rattle.meaning.specs.Queues.{joinTail, turned, lowestHead, withoutLowestHead}
 use Rattle.meaning.specs.Box.{Box, Packet, rankIn, inTheirQueues, serialsRise, sound}
-use Rattle.meaning.proofs.Facts.{SoundFacts, sound-facts}
+use Rattle.meaning.proofs.Facts.{sound-facts}
 use Rattle.meaning.proofs.QueueLaws.{joined-member, turned-member}
 
 module _ {A : Type 0} where
+  -- What joins a tail is added to every sum.
   join-sum : (f : A → ℕ) (k : ℕ) (p : A) (qs : List (List A)) → k < length qs → sumOf f (flatten (joinTail k p qs)) ≡ f p + sumOf f (flatten qs)
   unfolding joinTail flatten
   join-sum f k p [] h = absurd (omega arith)
@@ -32,12 +33,14 @@ module _ {A : Type 0} where
   pub join-put : (k : ℕ) (p : A) (qs : List (List A)) → k < length qs → Put p (flatten qs) (flatten (joinTail k p qs))
   join-put k p qs h = record { sums = λ f. join-sum f k p qs h; parts = λ x m. joined-member k p qs m }
 
+  -- The lowest head is a part of every sum.
   head-sum : (f : A → ℕ) (p : A) (qs : List (List A)) → lowestHead qs ≡ some p → sumOf f (flatten qs) ≡ f p + sumOf f (flatten (withoutLowestHead qs))
   unfolding lowestHead withoutLowestHead flatten sumOf
   head-sum f p [] e = absurd (let z : _≡_ {A = ℕ} 0 1 = cc in omega arith)
   head-sum f p ([] ∷ qs) e = head-sum f p qs e
   head-sum f p ((x ∷ q) ∷ qs) e = let z : x ≡ p = cc in let y = ap f z in omega arith
 
+  -- A packet that waits is the lowest head or one of the rest.
   head-parts : (p : A) (qs : List (List A)) → lowestHead qs ≡ some p → (x : A) → List·Memᴰ x (flatten qs) →
       (x ≡ p) ⊎ List·Memᴰ x (flatten (withoutLowestHead qs))
   unfolding lowestHead withoutLowestHead flatten
@@ -51,6 +54,7 @@ module _ {A : Type 0} where
   pub head-put : (p : A) (qs : List (List A)) → lowestHead qs ≡ some p → Put p (flatten (withoutLowestHead qs)) (flatten qs)
   head-put p qs e = record { sums = λ f. head-sum f p qs e; parts = head-parts p qs e }
 
+  -- A turn changes no sum.
   turned-sum : (f : A → ℕ) (qs : List (List A)) → sumOf f (flatten (turned qs)) ≡ sumOf f (flatten qs)
   unfolding turned flatten
   turned-sum f [] = refl
@@ -64,6 +68,7 @@ module _ {A : Type 0} where
 abbrev pub Before : Box → Packet → Packet → Type 0
 Before box x y = (rankIn box x < rankIn box y) ⊎ ((rankIn box x ≡ rankIn box y) × (x .serial < y .serial))
 
+-- Every member of a rising list is above the number that it starts from.
 rising-member : (low : ℕ) (ns : List ℕ) → risingAbove low ns ≡ true → {n : ℕ} → List·Memᴰ n ns → low < n
 unfolding risingAbove
 rising-member low [] e m = absurd (List·Memᴰ·not-nil m)
@@ -85,6 +90,7 @@ module _ (box : Box) where
       (λ (n : List·Memᴰ x (flatten qs)). let r = rank-least (suc tag) qs (h .1) x n in omega arith)
       (List·Memᴰ·append-cases q m)
 
+  -- The lowest head of the queues from a tag on goes before the rest of them.
   head-least : (tag : ℕ) (qs : List (List Packet)) → inTheirQueues box tag qs ≡ true →
       every (λ q. risingAbove 0 (map (λ p. p .serial) q)) qs ≡ true → (p : Packet) → lowestHead qs ≡ some p →
       (x : Packet) → List·Memᴰ x (flatten (withoutLowestHead qs)) → Before box p x

@@ -1,16 +1,16 @@
 -- The classes of a box: their factors rise, so class 1 has the least bound, at least D below every other, and dP is the largest.
-use Prim.Native.Nat.{ℕ, zero, suc, _+_, _*_, _-_, _≤_, _<_}
-use mathlib.Core.Path.{_≡_, refl, sym, _∙_, ap}
-use mathlib.Core.Bool.{Bool, true, false, _&&_, and-eq-true-iff}
+use Prim.Native.Nat.{ℕ, zero, suc, _+_, _-_, _≤_, _<_}
+use mathlib.Core.Path.{_≡_}
+use mathlib.Core.Bool.{true, and-eq-true-iff}
 use mathlib.Core.List.{List, [], _∷_}
-use lib.Dec.{leb, ltb, eqb}
+use lib.Dec.{ltb}
 use lib.ListN.{length, getD}
 use borrow.Author.Tests.{ltb-true}
 use native.Mathlib.Nat.{mul-le-mul-right}
-use native.Mathlib.Decide.{decLt, decLe}
 use native.Mathlib.Omega.{arith}
 use Rattle.meaning.specs.Numbers.{Settings, factor, largestFactor, bound, largestBound, classCount, risingAbove}
 use Rattle.meaning.proofs.Facts.{SettingsFacts}
+use Rattle.meaning.proofs.KeptByOffer.{factor-within}
 
 -- Every number of a rising list is above the one that it starts from.
 rising-above : (low : ℕ) (ns : List ℕ) → risingAbove low ns ≡ true → (i : ℕ) → i < length ns → low < getD ns i 0
@@ -43,15 +43,6 @@ module _ (set : Settings) (f : SettingsFacts set) where
   unfolding factor classCount
   factor-rises p q h l m = rising-apart 0 (set .factors) (f .factors-rise) (p - 1) (q - 1) (omega arith) (omega arith)
 
-  -- No factor is above rP.
-  pub factor-most : (p : ℕ) → 1 ≤ p → p ≤ classCount set → factor set p ≤ largestFactor set
-  unfolding largestFactor
-  factor-most p h l =
-      elim (decLt p (classCount set)) [
-        | yes m ↦ (let r = factor-rises p (classCount set) h m (omega arith) in omega arith)
-        | no m ↦ (let e : p ≡ classCount set = omega arith in let r = ap (factor set) e in omega arith)
-      ]
-
   -- Every bound is at least 1.
   pub bound-least : (p : ℕ) → 1 ≤ p → p ≤ classCount set → 1 ≤ bound set p
   unfolding bound
@@ -63,7 +54,7 @@ module _ (set : Settings) (f : SettingsFacts set) where
   -- No bound is above dP.
   pub bound-most : (p : ℕ) → 1 ≤ p → p ≤ classCount set → bound set p ≤ largestBound set
   unfolding bound largestBound largestFactor
-  bound-most p h l = mul-le-mul-right (set .interval) (factor-most p h l)
+  bound-most p h l = mul-le-mul-right (set .interval) (factor-within set p f h l)
 
   -- Every class above 1 has a bound at least D above d1.
   pub bound-apart : (p : ℕ) → 2 ≤ p → p ≤ classCount set → bound set 1 + set .interval ≤ bound set p

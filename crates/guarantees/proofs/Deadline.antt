@@ -1,25 +1,27 @@
 -- No packet is in the box at its bound: the limits by class, and the test at the slot that they point to.
-use Prim.Native.Nat.{ℕ, zero, suc, _+_, _*_, _-_, _/_, _≤_, _<_}
-use mathlib.Core.Path.{_≡_, refl, sym, _∙_, ap, subst}
+use Prim.Native.Nat.{ℕ, _+_, _*_, _-_, _/_, _≤_, _<_}
+use mathlib.Core.Path.{_≡_, sym, _∙_, ap}
 use mathlib.Core.Bool.{Bool, true, false}
 use mathlib.Core.List.{List, List·Memᴰ}
 use mathlib.Core.Logic.{_⊎_, inl, inr, ⊎-elim}
-use native.Mathlib.Decide.{decLt, decLe, ℕ-discrete}
+use native.Mathlib.Decide.{decLt, ℕ-discrete}
 use native.Mathlib.Omega.{arith}
 use Rattle.laws.specs.SumLaws.{given, given-true, sum-member}
-use Rattle.meaning.specs.Numbers.{Settings, factor, bound, classCount}
+use Rattle.meaning.specs.Numbers.{factor, bound}
 use Rattle.meaning.specs.Queues.{rank}
-use Rattle.meaning.specs.Box.{Box, Packet, Link, free, carries, connection, waiting, rankIn}
-use Rattle.meaning.proofs.Facts.{SettingsFacts, ConnectionFacts, PacketFacts}
+use Rattle.meaning.specs.Envelope.{envelope}
+use Rattle.meaning.specs.Box.{Box, Packet, carries, connection, waiting, rankIn}
+use Rattle.meaning.proofs.Facts.{ConnectionFacts}
+use Rattle.guarantees.specs.Runs.{InBox}
 use Rattle.guarantees.proofs.Classes.{factor-rises, bound-apart}
-use Rattle.guarantees.proofs.Backlog.{waitingWork, linkWork, linkOther, arrivedSince, InTheWay, Busy, Backlog, OnLink}
+use Rattle.guarantees.proofs.Backlog.{waitingWork, linkWork, arrivedSince, InTheWay, Busy, Backlog}
 use Rattle.guarantees.proofs.Known.{Known}
 use Rattle.guarantees.proofs.Scheduled.{Scheduled}
 use Rattle.guarantees.proofs.Limits.{upTo, up-to-facts, up-to-closed, up-to-self, beyond-rank, not-above, below, beyond, earlier-interval, interval-of}
-use Rattle.guarantees.proofs.Ahead.{Conforming, classOf, KeepsLimits}
-use Rattle.guarantees.proofs.Enough.{boundOf, connection-of, none-in-the-way, far-in-the-way, near-in-the-way}
+use Rattle.guarantees.proofs.Ahead.{KeepsEnvelope, classOf, KeepsLimits}
+use Rattle.guarantees.proofs.Enough.{connection-of, none-in-the-way, far-in-the-way, near-in-the-way}
 
-module _ (box : Box) (H : List Packet) (k : Known box H) (conforming : Conforming box H) (p : Packet) (m : List·Memᴰ p H) where
+module _ (box : Box) (H : List Packet) (k : Known box H) (conforming : KeepsEnvelope envelope box H) (p : Packet) (m : List·Memᴰ p H) where
   -- The rotation interval.
   abbrev D : ℕ
   D = box .settings .interval
@@ -32,6 +34,7 @@ module _ (box : Box) (H : List Packet) (k : Known box H) (conforming : Conformin
   abbrev d : Packet → ℕ
   d x = bound (box .settings) (classOf box x)
 
+  -- p arrived in that interval.
   starts : (start ≤ p .arrival) × (p .arrival < start + D)
   unfolding start
   starts = interval-of (box .settings .interval) (k .settings-ok .interval-least) (p .arrival)
@@ -88,7 +91,7 @@ module _ (box : Box) (H : List Packet) (k : Known box H) (conforming : Conformin
         after : u + T < u + rest + arrivedSince (upTo box p) u H
         after = omega arith
 
-        limits : KeepsLimits box H k conforming (upTo box p) u T
+        limits : KeepsLimits box H (upTo box p) u T
         limits x n e g =
             elim (ℕ-discrete (classOf box x) 1) [
               | yes c ↦ inl (
@@ -141,7 +144,7 @@ module _ (box : Box) (H : List Packet) (k : Known box H) (conforming : Conformin
         after : u + T < u + rest + arrivedSince (upTo box p) u H
         after = let s = starts in let e = sum in omega arith
 
-        limits : KeepsLimits box H k conforming (upTo box p) u T
+        limits : KeepsLimits box H (upTo box p) u T
         limits x n e g =
             elim (ℕ-discrete (classOf box x) 1) [
               | yes c ↦ inl (
@@ -168,7 +171,7 @@ module _ (box : Box) (H : List Packet) (k : Known box H) (conforming : Conformin
 
 -- A packet of q on the link or among those that wait is work.
 in-box-works : (q : Packet → Bool) (box : Box) (H : List Packet) → Known box H → (p : Packet) → q p ≡ true →
-    List·Memᴰ p (waiting box) ⊎ ((left : ℕ) × (box .link ≡ carries p left)) → 1 ≤ waitingWork q (waiting box) + linkWork q (box .link)
+    InBox box p → 1 ≤ waitingWork q (waiting box) + linkWork q (box .link)
 unfolding waitingWork
 in-box-works q box H k p e (inl n) =
     let g = given-true (p .units) e in
@@ -182,18 +185,18 @@ in-box-works q box H k p e (inr l) =
     omega arith
 
 -- A packet in the box is not at its bound.
-pub not-at-bound : (box : Box) (H : List Packet) → Known box H → Conforming box H → Scheduled box H → (p : Packet) → List·Memᴰ p H →
-    List·Memᴰ p (waiting box) ⊎ ((left : ℕ) × (box .link ≡ carries p left)) →
+pub not-at-bound : (box : Box) (H : List Packet) → Known box H → KeepsEnvelope envelope box H → Scheduled box H → (p : Packet) → List·Memᴰ p H →
+    InBox box p →
     box .counter ≡ p .arrival + bound (box .settings) (classOf box p) → ⊥
 not-at-bound box H k conforming s p m inside now = go inside (s (upTo box p) (up-to-closed box H p))
   where
     works : 1 ≤ waitingWork (upTo box p) (waiting box) + linkWork (upTo box p) (box .link)
     works = in-box-works (upTo box p) box H k p (up-to-self box p) inside
 
-    early : List·Memᴰ p (waiting box) ⊎ ((left : ℕ) × (box .link ≡ carries p left)) → (b : Busy (upTo box p) (box .counter) (waiting box) (box .link) H) → b .since ≤ p .arrival
+    early : InBox box p → (b : Busy (upTo box p) (box .counter) (waiting box) (box .link) H) → b .since ≤ p .arrival
     early (inl n) b = b .waits p n (up-to-self box p)
     early (inr l) b = b .carried p (l .0) (l .1) (up-to-self box p)
 
-    go : List·Memᴰ p (waiting box) ⊎ ((left : ℕ) × (box .link ≡ carries p left)) → Backlog (upTo box p) (box .counter) (waiting box) (box .link) H → ⊥
+    go : InBox box p → Backlog (upTo box p) (box .counter) (waiting box) (box .link) H → ⊥
     go i (inl z) = let w = works in omega arith
     go i (inr b) = never-at-bound box H k conforming p m (b .since) (b .rest) (early i b) (b .way) (let a = b .account in let w = works in omega arith)

@@ -1,31 +1,26 @@
 -- The printed test is enough: where (11) and (12) hold at every t, no account of the link lets a packet stay to its bound.
-use Prim.Native.Nat.{ℕ, zero, suc, _+_, _*_, _-_, _/_, _≤_, _<_}
-use mathlib.Core.Path.{_≡_, refl, sym, _∙_, ap}
-use mathlib.Core.Bool.{Bool, true, false, cond}
+use Prim.Native.Nat.{ℕ, _+_, _≤_, _<_}
+use mathlib.Core.Path.{_≡_}
+use mathlib.Core.Bool.{Bool, true, cond}
 use mathlib.Core.List.{List, List·Memᴰ}
-use mathlib.Core.Logic.{_⊎_, inl, inr, ⊎-elim}
-use lib.Dec.{leb, ltb, eqb}
-use lib.ListN.{length}
+use lib.Dec.{ltb}
 use borrow.Author.Tests.{lt-ltb, le-leb, ne-eqb}
 use native.Mathlib.Nat.{le-trans}
-use native.Mathlib.Decide.{decLt, decLe, ℕ-discrete}
 use native.Mathlib.Omega.{arith}
 use Rattle.laws.specs.SumLaws.{largest-member}
-use Rattle.meaning.specs.Numbers.{Settings, Connection, factor, bound, largestBound, classCount}
-use Rattle.meaning.specs.Envelope.{envelope, delayed, IsEnvelope}
+use Rattle.meaning.specs.Numbers.{bound}
+use Rattle.meaning.specs.Envelope.{envelope, delayed}
 use Rattle.meaning.specs.Admission.{term, sumAt, inTheWay}
-use Rattle.meaning.specs.Queues.{rank}
-use Rattle.meaning.specs.Box.{Box, Packet, connections, connection, rankIn}
-use Rattle.meaning.proofs.Facts.{SettingsFacts, ConnectionFacts, PacketFacts}
-use Rattle.guarantees.proofs.Classes.{factor-rises, bound-most, bound-apart}
-use Rattle.guarantees.proofs.WithoutEnd.{ConditionFacts, condition-facts, envelope-laws}
-use Rattle.guarantees.proofs.Backlog.{arrivedSince, InTheWay}
+use Rattle.meaning.specs.Box.{Box, Packet, connections, connection}
+use Rattle.meaning.proofs.Facts.{ConnectionFacts}
+use Rattle.guarantees.proofs.Classes.{bound-most}
+use Rattle.guarantees.proofs.WithoutEnd.{condition-facts, envelope-laws}
+use Rattle.guarantees.proofs.Backlog.{arrivedSince}
 use Rattle.guarantees.proofs.Known.{Known}
 use Rattle.guarantees.proofs.Effects.{connection-member}
-use Rattle.guarantees.proofs.Limits.{upTo, up-to-facts, beyond-rank, not-above, below, beyond, earlier-interval, interval-of}
-use Rattle.guarantees.proofs.Ahead.{Conforming, classOf, KeepsLimits, ahead-sum, ahead-spare}
+use Rattle.guarantees.proofs.Ahead.{KeepsEnvelope, classOf, KeepsLimits, ahead-sum, ahead-spare}
 
-module _ (box : Box) (H : List Packet) (k : Known box H) (conforming : Conforming box H) where
+module _ (box : Box) (H : List Packet) (k : Known box H) (conforming : KeepsEnvelope envelope box H) where
   -- The bound of a packet.
   abbrev pub boundOf : Packet → ℕ
   boundOf x = bound (box .settings) (classOf box x)
@@ -55,16 +50,20 @@ module _ (box : Box) (H : List Packet) (k : Known box H) (conforming : Conformin
   module _ (q : Packet → Bool) (u rest : ℕ) where
     -- The printed test, at a T whose limits the packets ahead keep: with nothing in the way, with a packet in the way whose bound
     -- exceeds T + D, and with one whose bound does not and whose connection brings in nothing.
-    module _ (T : ℕ) (limits : KeepsLimits box H k conforming q u T) (late : u + T < u + rest + arrivedSince q u H) where
+    module _ (T : ℕ) (limits : KeepsLimits box H q u T) (late : u + T < u + rest + arrivedSince q u H) where
+      -- (11) at T.
       pub none-in-the-way : rest ≡ 0 → ⊥
+      unfolding sumAt term
       none-in-the-way e =
-          let s = ahead-sum box H k conforming q u T limits in
+          let s = ahead-sum envelope box H k conforming q u T limits in
           let c = condition-facts _ _ T (k .conditions-hold T) .eleven-holds in
           omega arith
 
+      -- (12) at T.
       pub far-in-the-way : (v : Packet) → List·Memᴰ v H → rest < v .units → bound (box .settings) 1 ≤ T → T + box .settings .interval < boundOf v → ⊥
+      unfolding sumAt term
       far-in-the-way v m r l far =
-          let s = ahead-sum box H k conforming q u T limits in
+          let s = ahead-sum envelope box H k conforming q u T limits in
           let f = connection-of v m in
           let b = bound-most (box .settings) (k .settings-ok) (classOf box v) (f .class-least) (f .class-most) in
           let c = condition-facts _ _ T (k .conditions-hold T) .twelve-holds l (omega arith) in
@@ -72,11 +71,13 @@ module _ (box : Box) (H : List Packet) (k : Known box H) (conforming : Conformin
           let p = k .packets-ok v m .units-most in
           omega arith
 
+      -- (11) at T, with s to spare.
       pub near-in-the-way : (v : Packet) → List·Memᴰ v H → rest < v .units → (classOf box v ≡ 1 → ⊥) → boundOf v ≤ T + box .settings .interval →
           ((x : Packet) → List·Memᴰ x H → x .connection ≡ v .connection → q x ≡ true → u ≤ x .arrival → ⊥) → ⊥
+      unfolding sumAt term
       near-in-the-way v m r n near none =
           let f = k .packets-ok v m in
-          let s = ahead-spare box H k conforming q u T limits (v .connection) (connection box (v .connection) .longest)
+          let s = ahead-spare envelope box H k conforming q u T limits (v .connection) (connection box (v .connection) .longest)
           (f .connection-least) (f .connection-most) (term-least T v m n near) none in
           let c = condition-facts _ _ T (k .conditions-hold T) .eleven-holds in
           let p = f .units-most in

@@ -1,34 +1,30 @@
 -- What is known of a box and the packets accepted so far, after every run.
-use Prim.Native.Nat.{ℕ, zero, suc, _+_, _-_, _≤_, _<_}
-use mathlib.Core.Path.{_≡_, refl, sym, _∙_, ap}
-use mathlib.Core.Bool.{Bool, true, false, cond}
-use mathlib.Core.List.{List, [], _∷_, _++_, map, flatten, map-append, List·Memᴰ, List·Memᴰ·not-nil, List·Memᴰ·eq-of-singleton, List·Memᴰ·append-cases, Memᴰ·append-left, Memᴰ·append-right}
+use Prim.Native.Nat.{ℕ, suc, _-_, _≤_}
+use mathlib.Core.Path.{_≡_, ap}
+use mathlib.Core.Bool.{true}
+use mathlib.Core.List.{List, [], _∷_, _++_, map, map-append, List·Memᴰ, List·Memᴰ·not-nil, List·Memᴰ·eq-of-singleton, List·Memᴰ·append-cases, Memᴰ·append-left, Memᴰ·append-right}
 use mathlib.Core.Logic.{_⊎_, inl, inr, ⊎-elim}
-use lib.Dec.{leb}
 use lib.ListN.{length}
-use borrow.Author.Tests.{le-leb}
 use native.Mathlib.Omega.{arith}
-use Rattle.laws.specs.Tests.{within, within-facts}
+use Rattle.laws.specs.Tests.{within-facts}
 use Rattle.laws.specs.Sums.{sumOf, largestOf}
-use Rattle.laws.specs.Putting.{Put, Same}
 use Rattle.meaning.specs.declared.Admitted.{Admitted}
-use Rattle.meaning.specs.declared.Offered.{Offered}
-use Rattle.meaning.specs.Numbers.{Settings, Connection, settingsAllowed, connectionAllowed}
+use Rattle.meaning.specs.Numbers.{Settings, Connection, settingsAllowed}
 use Rattle.meaning.specs.Envelope.{full}
-use Rattle.meaning.specs.Admission.{HoldsWithoutEnd, conditionAt, sumAt, inTheWay}
-use Rattle.meaning.specs.Box.{Box, Standing, Packet, Link, free, carries, connections, connection, stands, waiting, sound}
+use Rattle.meaning.specs.Admission.{HoldsWithoutEnd, sumAt, inTheWay}
+use Rattle.meaning.specs.Box.{Box, Standing, Packet, Link, free, carries, connections, connection, stands, waiting}
 use Rattle.meaning.specs.Queues.{emptyQueues}
-use Rattle.meaning.specs.Calls.{newBox, withNewcomer, withStanding, admissionAnswer, afterOffer, chargedAt}
-use Rattle.meaning.specs.Step.{linkTaken, queuesTaken, linkSent, moved}
+use Rattle.meaning.specs.Calls.{newBox, withNewcomer, withStanding, admissionAnswer, afterOffer}
+use Rattle.meaning.specs.Step.{linkSent, moved}
 use Rattle.meaning.proofs.Facts.{SettingsFacts, settings-facts, ConnectionFacts, PacketFacts}
 use Rattle.meaning.proofs.QueueLaws.{empty-flatten}
 use Rattle.guarantees.specs.Runs.{Departure}
-use Rattle.guarantees.proofs.Saying.{AdmissionSays, admission-says, OfferSays, StepGoes}
+use Rattle.guarantees.proofs.Saying.{AdmissionSays, admission-says, StepGoes}
 use Rattle.guarantees.proofs.WithoutEnd.{condition-test}
 use Rattle.guarantees.proofs.Admitting.{taken-holds, newcomer-facts}
 use Rattle.guarantees.proofs.Backlog.{OnLink}
 use Rattle.guarantees.proofs.Sending.{sent-cases}
-use Rattle.guarantees.proofs.Moves.{Move, refused, joins, accepts, idles, sends, departs, newPacket, Grows, move-grows, charged-same, facts-grow}
+use Rattle.guarantees.proofs.Moves.{Move, refused, joins, accepts, idles, sends, departs, newPacket, Grows, move-grows, charged-same, facts-grow, accepting, AcceptSays}
 use Rattle.guarantees.proofs.Effects.{accepted-put, Taking, nothing, takes, carrying, taking, stepped-same}
 
 -- What is known of the box and of every packet accepted so far.
@@ -60,6 +56,7 @@ known-new set e =
       link-known = λ p left l. absurd (let z : _≡_ {A = ℕ} 0 1 = cc in omega arith);
     }
 
+-- More history changes nothing of the packet on the link.
 on-link-more : {slot : ℕ} {H : List Packet} {p : Packet} {left : ℕ} (x : Packet) → OnLink slot H p left → OnLink slot (H ++ (x ∷ [])) p left
 on-link-more x o =
     record { accepted = Memᴰ·append-left (x ∷ []) (o .accepted); earlier = o .earlier; some-left = o .some-left; some-sent = o .some-sent }
@@ -82,14 +79,14 @@ known-joins box H c n e rows same g k =
     }
 
 -- An accepted packet changes no connection.
-pub offer-connections : (box : Box) (n units : ℕ) → connections (afterOffer box n units (Offered.Accepted (suc (box .accepted)))) ≡ connections box
+pub offer-connections : (box : Box) (n units : ℕ) → connections (accepting box n units) ≡ connections box
 unfolding connections afterOffer
 offer-connections box n units = charged-same box n
 
 -- The facts of a packet that is accepted now.
-new-packet-facts : (box : Box) (n units : ℕ) → OfferSays box n units (Offered.Accepted (suc (box .accepted))) →
-    Grows box (afterOffer box n units (Offered.Accepted (suc (box .accepted)))) →
-    PacketFacts (afterOffer box n units (Offered.Accepted (suc (box .accepted)))) (newPacket box n units)
+new-packet-facts : (box : Box) (n units : ℕ) → AcceptSays box n units →
+    Grows box (accepting box n units) →
+    PacketFacts (accepting box n units) (newPacket box n units)
 new-packet-facts box n units s g =
     let w = within-facts 1 n (length (box .standing)) (unfold stands in s .1) in
     let u = within-facts 1 units (connection box n .longest) (s .2) in
@@ -106,9 +103,9 @@ new-packet-facts box n units s g =
     }
 
 -- A packet is accepted.
-known-accepts : (box : Box) (H : List Packet) (n units : ℕ) → OfferSays box n units (Offered.Accepted (suc (box .accepted))) →
-    Grows box (afterOffer box n units (Offered.Accepted (suc (box .accepted)))) →
-    Known box H → Known (afterOffer box n units (Offered.Accepted (suc (box .accepted)))) (H ++ (newPacket box n units ∷ []))
+known-accepts : (box : Box) (H : List Packet) (n units : ℕ) → AcceptSays box n units →
+    Grows box (accepting box n units) →
+    Known box H → Known (accepting box n units) (H ++ (newPacket box n units ∷ []))
 unfolding afterOffer
 known-accepts box H n units s g k =
     record {
@@ -126,10 +123,11 @@ known-accepts box H n units s g k =
     p : Packet
     p = newPacket box n units
 
-    same : connections (afterOffer box n units (Offered.Accepted (suc (box .accepted)))) ≡ connections box
+    same : connections (accepting box n units) ≡ connections box
     same = offer-connections box n units
 
-    rise : (x y : Packet) → List·Memᴰ x H ⊎ List·Memᴰ x (p ∷ []) → List·Memᴰ y H ⊎ List·Memᴰ y (p ∷ []) → x .serial ≤ y .serial → x .arrival ≤ y .arrival
+    rise : (x y : Packet) → List·Memᴰ x H ⊎ List·Memᴰ x (p ∷ []) → List·Memᴰ y H ⊎ List·Memᴰ y (p ∷ []) →
+        x .serial ≤ y .serial → x .arrival ≤ y .arrival
     rise x y (inl a) (inl b) h = k .arrivals-rise x y a b h
     rise x y (inl a) (inr b) h =
         let e = ap (λ (p : Packet). p .arrival) (List·Memᴰ·eq-of-singleton b) in
@@ -158,11 +156,12 @@ known-steps box H go g k =
     }
   where
     still-waits : {l : Link} {W : List Packet} → Taking box l W → (p : Packet) → List·Memᴰ p W → List·Memᴰ p (waiting box)
-    still-waits (nothing e) p m = absurd (List·Memᴰ·not-nil m)
+    still-waits (nothing e w) p m = absurd (List·Memᴰ·not-nil m)
     still-waits (takes x W e put there others first) p m = others p m
     still-waits (carrying x left e) p m = m
 
-    sent : (p : Packet) (left : ℕ) → List·Memᴰ p H → left ≤ p .units → (x : Packet) (l : ℕ) → linkSent (carries p left) ≡ carries x l → OnLink (suc (box .counter)) H x l
+    sent : (p : Packet) (left : ℕ) → List·Memᴰ p H → left ≤ p .units →
+        (x : Packet) (l : ℕ) → linkSent (carries p left) ≡ carries x l → OnLink (suc (box .counter)) H x l
     sent p left m u x l e =
         ⊎-elim (λ (c : (left ≤ 1) × (linkSent (carries p left) ≡ free)). absurd (let h = c .1 in let z : _≡_ {A = ℕ} 0 1 = cc in omega arith))
         (λ (c : (2 ≤ left) × (linkSent (carries p left) ≡ carries p (left - 1))).
@@ -175,7 +174,7 @@ known-steps box H go g k =
         (sent-cases p left)
 
     link : {l : Link} {W : List Packet} → Taking box l W → (x : Packet) (left : ℕ) → linkSent l ≡ carries x left → OnLink (suc (box .counter)) H x left
-    link (nothing e) x left h = unfold linkSent in absurd (let z : _≡_ {A = ℕ} 0 1 = cc in omega arith)
+    link (nothing e w) x left h = unfold linkSent in absurd (let z : _≡_ {A = ℕ} 0 1 = cc in omega arith)
     link (takes p W e put there others first) x left h = sent p (p .units) (k .waiting-known p there) (omega arith) x left h
     link (carrying p l e) x left h = let o = k .link-known p l e in let s = o .some-sent in sent p l (o .accepted) (omega arith) x left h
 
@@ -183,7 +182,9 @@ known-steps box H go g k =
 pub known-moves : (box next : Box) (H H′ : List Packet) (G G′ : List Departure) → Known box H → Move box H G next H′ G′ → Known next H′
 known-moves box next H H′ G G′ k refused = k
 known-moves box next H H′ G G′ k (joins c n e) =
-    known-joins box H c n e (box .standing ++ (record { asked = c; allowance = full c } ∷ [])) (unfold withNewcomer connections in map-append (λ (s : Standing). s .asked) (box .standing) (record { asked = c; allowance = full c } ∷ [])) (move-grows {H = H} {G = G} (joins c n e)) k
+    known-joins box H c n e (box .standing ++ (record { asked = c; allowance = full c } ∷ []))
+    (unfold withNewcomer connections in map-append (λ (s : Standing). s .asked) (box .standing) (record { asked = c; allowance = full c } ∷ []))
+    (move-grows {H = H} {G = G} (joins c n e)) k
 known-moves box next H H′ G G′ k (accepts n units s) = known-accepts box H n units s (move-grows {H = H} {G = G} (accepts n units s)) k
 known-moves box next H H′ G G′ k (idles go e) = known-steps box H go (move-grows {H = H} {G = G} (idles go e)) k
 known-moves box next H H′ G G′ k (sends go p left e l) = known-steps box H go (move-grows {H = H} {G = G} (sends go p left e l)) k

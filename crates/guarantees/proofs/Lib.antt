@@ -1,5 +1,7 @@
--- The theorems about runs.
+-- The theorems about admission and about runs. What is promised stands in Admitting, Statements, Turning and Isolated; the rest is the
+-- way there: AnyEnvelope and WithoutEnd for the test, Backlog to Scheduled for the link, Limits to Deadline for what can be ahead.
 pub mod Classes
+pub mod AnyEnvelope
 pub mod WithoutEnd
 pub mod Saying
 pub mod Admitting
@@ -15,3 +17,13 @@ pub mod Ahead
 pub mod Enough
 pub mod Deadline
 pub mod Stretches
+pub mod Records
+pub mod Metered
+pub mod OnTime
+pub mod Once
+pub mod Order
+pub mod Always
+pub mod Statements
+pub mod Turning
+pub mod Isolated
+pub mod WorkedRun

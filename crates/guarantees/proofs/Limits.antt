@@ -1,13 +1,13 @@
 -- What can be ahead of a packet: ranks turned into slots. K = floor(a/D) throughout, for the packet's arrival a.
-use Prim.Native.Nat.{ℕ, zero, suc, _+_, _*_, _/_, _≤_, _<_}
-use mathlib.Core.Path.{_≡_, refl, sym, _∙_, ap}
+use Prim.Native.Nat.{ℕ, _+_, _*_, _/_, _≤_, _<_}
+use mathlib.Core.Path.{_≡_, refl, sym, _∙_}
 use mathlib.Core.Bool.{Bool, true, false, _&&_, _||_, and-eq-true-iff, true≢false}
-use mathlib.Core.List.{List, List·Memᴰ}
+use mathlib.Core.List.{List}
 use mathlib.Core.Logic.{_⊎_, inl, inr, ⊎-elim}
 use lib.Dec.{leb, ltb, eqb}
 use borrow.Author.Tests.{ltb-true, lt-ltb, leb-true, le-leb, eqb-true, eq-eqb}
 use native.Mathlib.Nat.{div-mul-le-self, lt-div-mul-add, mul-le-mul-right}
-use native.Mathlib.Decide.{decLt, decLe}
+use native.Mathlib.Decide.{decLt}
 use native.Mathlib.Omega.{arith}
 use Rattle.laws.specs.Tests.{or-cases, or-left, or-right}
 use Rattle.meaning.specs.Box.{Box, Packet, rankIn}
@@ -19,6 +19,7 @@ unfoldable pub upTo : Box → Packet → Packet → Bool
 upTo box p x = ltb (rankIn box x) (rankIn box p) || eqb (rankIn box x) (rankIn box p) && leb (x .serial) (p .serial)
 
 module _ (box : Box) (p x : Packet) where
+  -- What the test says.
   pub up-to-facts : upTo box p x ≡ true → (rankIn box x < rankIn box p) ⊎ ((rankIn box x ≡ rankIn box p) × (x .serial ≤ p .serial))
   unfolding upTo
   up-to-facts e =
@@ -27,6 +28,7 @@ module _ (box : Box) (p x : Packet) where
       inr (eqb-true (rankIn box x) (rankIn box p) (b .0), leb-true (x .serial) (p .serial) (b .1)))
       (or-cases (ltb (rankIn box x) (rankIn box p)) (eqb (rankIn box x) (rankIn box p) && leb (x .serial) (p .serial)) e)
 
+  -- And back.
   pub up-to-test : (rankIn box x < rankIn box p) ⊎ ((rankIn box x ≡ rankIn box p) × (x .serial ≤ p .serial)) → upTo box p x ≡ true
   unfolding upTo
   up-to-test (inl l) = or-left _ _ (lt-ltb (rankIn box x) (rankIn box p) l)

@@ -1,10 +1,10 @@
 -- Every call of a run is one of six moves on a box and its history; an invariant of the moves holds after every run.
-use Prim.Native.Nat.{ℕ, zero, suc, _+_, _-_, _≤_, _<_}
-use mathlib.Core.Path.{_≡_, refl, sym, _∙_, ap}
-use mathlib.Core.Bool.{Bool, true, false, cond, not, _&&_}
+use Prim.Native.Nat.{ℕ, suc, _-_, _≤_}
+use mathlib.Core.Path.{_≡_, refl}
+use mathlib.Core.Bool.{true, false}
 use mathlib.Core.List.{List, [], _∷_, _++_, map, append-nil, append-assoc, map-append}
 use lib.Dec.{leb}
-use lib.ListN.{length, getD, length-append, length-set, length-map, List·getD-append}
+use lib.ListN.{length, length-append, length-set, length-map, List·getD-append}
 use lib.Seq.{map-set-same}
 use native.Mathlib.Omega.{arith}
 use Rattle.meaning.specs.declared.Admitted.{Admitted}
@@ -12,14 +12,12 @@ use Rattle.meaning.specs.declared.Offered.{Offered}
 use Rattle.meaning.specs.declared.Stepped.{Stepped}
 use Rattle.meaning.specs.Numbers.{Connection}
 use Rattle.meaning.specs.Envelope.{full}
-use Rattle.meaning.specs.Box.{Box, Standing, Packet, Link, free, carries, connections, connection, noConnection, stands, rankIn, sound}
-use Rattle.meaning.specs.Queues.{rank}
+use Rattle.meaning.specs.Box.{Box, Standing, Packet, free, carries, connections, connection, noConnection, rankIn}
 use Rattle.meaning.specs.Calls.{admissionAnswer, withStanding, afterAdmission, offerAnswer, afterOffer, chargedAt}
 use Rattle.meaning.specs.Step.{linkTaken, stepAnswer, moved, afterStep}
 use Rattle.meaning.proofs.Facts.{PacketFacts}
-use Rattle.laws.specs.Tests.{within, within-facts}
-use Rattle.guarantees.specs.Runs.{Call, admit, offer, step, Reply, toAdmission, toOffer, toStep, reply, after, boxAfter, Event, trace, offerTaken, packetTaken, acceptedIn, Departure, stepLeft, packetLeft, departedIn}
-use Rattle.guarantees.proofs.Saying.{AdmissionSays, admission-says, OfferSays, offer-says, StepGoes, StepSays, step-says}
+use Rattle.guarantees.specs.Runs.{Call, admit, offer, step, reply, after, boxAfter, trace, offerTaken, packetTaken, acceptedIn, Departure, stepLeft, packetLeft, departedIn}
+use Rattle.guarantees.proofs.Saying.{OfferSays, offer-says, StepGoes, StepSays, step-says}
 
 -- The packet that an accepted offer brings in.
 abbrev pub newPacket : Box → ℕ → ℕ → Packet
@@ -29,13 +27,25 @@ newPacket box n units = record { serial = suc (box .accepted); connection = n; u
 abbrev pub leaving : Box → Packet → Departure
 leaving box p = record { serial = p .serial; connection = p .connection; arrival = p .arrival; departure = suc (box .counter) }
 
+-- The box once a packet of this connection and length is accepted.
+abbrev pub accepting : Box → ℕ → ℕ → Box
+accepting box n units = afterOffer box n units (Offered.Accepted (suc (box .accepted)))
+
+-- What the answer of that offer says.
+abbrev pub AcceptSays : Box → ℕ → ℕ → Type 0
+AcceptSays box n units = OfferSays box n units (Offered.Accepted (suc (box .accepted)))
+
+-- The box once this connection is taken.
+abbrev pub joining : Box → Connection → Box
+joining box c = withStanding box (box .standing ++ (record { asked = c; allowance = full c } ∷ []))
+
 -- What befalls a box, with H accepted and G departed before.
 pub data Move (box : Box) (H : List Packet) (G : List Departure) : Box → List Packet → List Departure → Type 0 where
   refused : Move box H G box H G
   joins : (c : Connection) (n : ℕ) → admissionAnswer box c ≡ Admitted.Taken n →
-      Move box H G (withStanding box (box .standing ++ (record { asked = c; allowance = full c } ∷ []))) H G
-  accepts : (n units : ℕ) → OfferSays box n units (Offered.Accepted (suc (box .accepted))) →
-      Move box H G (afterOffer box n units (Offered.Accepted (suc (box .accepted)))) (H ++ (newPacket box n units ∷ [])) G
+      Move box H G (joining box c) H G
+  accepts : (n units : ℕ) → AcceptSays box n units →
+      Move box H G (accepting box n units) (H ++ (newPacket box n units ∷ [])) G
   idles : StepGoes box → linkTaken (box .link) (box .queues) ≡ free → Move box H G (moved box) H G
   sends : StepGoes box → (p : Packet) (left : ℕ) → linkTaken (box .link) (box .queues) ≡ carries p left → leb left 1 ≡ false →
       Move box H G (moved box) H G
@@ -43,6 +53,7 @@ pub data Move (box : Box) (H : List Packet) (G : List Departure) : Box → List 
       Move box H G (moved box) H (G ++ (leaving box p ∷ []))
 
 module _ (box : Box) (H : List Packet) (G : List Departure) where
+  -- An admission joins or is refused.
   admission-moves : (c : Connection) (a : Admitted) → admissionAnswer box c ≡ a → Move box H G (afterAdmission box c a) (H ++ []) (G ++ [])
   unfolding afterAdmission
   admission-moves c (Admitted.Taken n) e = rw (append-nil H, append-nil G) (joins c n e)
@@ -52,6 +63,7 @@ module _ (box : Box) (H : List Packet) (G : List Departure) where
   admission-moves c Admitted.RateExceeded e = rw (append-nil H, append-nil G) refused
   admission-moves c (Admitted.ConditionFails t) e = rw (append-nil H, append-nil G) refused
 
+  -- An offer is accepted or refused.
   offer-moves : (n units : ℕ) (a : Offered) → OfferSays box n units a →
       Move box H G (afterOffer box n units a) (H ++ offerTaken (box .counter) n units a) (G ++ [])
   unfolding offerTaken
@@ -63,6 +75,7 @@ module _ (box : Box) (H : List Packet) (G : List Departure) where
   offer-moves n units Offered.NotFitting s = unfold afterOffer in rw (append-nil H, append-nil G) refused
   offer-moves n units Offered.StoreFull s = unfold afterOffer in rw (append-nil H, append-nil G) refused
 
+  -- A step idles, sends, reports a departure or is refused.
   step-moves : (a : Stepped) → StepSays box a → Move box H G (afterStep box a) (H ++ []) (G ++ stepLeft a)
   unfolding afterStep stepLeft
   step-moves Stepped.Idle s = rw (append-nil H, append-nil G) (idles (s .0) (s .1))
@@ -108,6 +121,7 @@ charged-same box n =
     map-set-same (λ s. s .asked) (box .standing) (n - 1) _ (record { asked = noConnection; allowance = full noConnection })
     (lib.ListN.List·getD-map (λ (s : Standing). s .asked) (box .standing) (n - 1) (record { asked = noConnection; allowance = full noConnection }))
 
+-- A step takes nothing of this back.
 step-grows : (box : Box) → Grows box (moved box)
 unfolding moved connection connections
 step-grows box =

@@ -1,11 +1,9 @@
 -- What each answer of a call says of the box that gave it: the refusals before it did not apply, and its own reason did.
-use Prim.Native.Nat.{ℕ, zero, suc, _+_, _-_, _≤_, _<_}
-use mathlib.Core.Path.{_≡_, refl, sym, _∙_, ap}
-use mathlib.Core.Bool.{Bool, true, false, cond, not, _&&_, and-eq-true-iff}
-use mathlib.Core.List.{List, [], _∷_}
-use lib.Dec.{leb, ltb, eqb}
+use Prim.Native.Nat.{ℕ, suc, _-_}
+use mathlib.Core.Path.{_≡_, refl}
+use mathlib.Core.Bool.{Bool, true, false, cond, not, _&&_}
+use lib.Dec.{leb}
 use lib.ListN.{length}
-use borrow.Author.Tests.{leb-true, leb-false}
 use Rattle.laws.specs.Tests.{within}
 use Rattle.laws.specs.Search.{Search, failsAt, holds}
 use Rattle.meaning.specs.declared.Admitted.{Admitted}
@@ -36,6 +34,7 @@ AdmissionSays box c (Admitted.Taken n) =
     (rateHolds (box .settings) (withNewcomer box c) ≡ true) × (finiteSearch (box .settings) (withNewcomer box c) ≡ holds) ×
     (n ≡ suc (length (box .standing)))
 
+-- It does say so.
 pub admission-says : (box : Box) (c : Connection) → AdmissionSays box c (admissionAnswer box c)
 unfolding admissionAnswer searchAnswer
 admission-says box c =
@@ -71,6 +70,7 @@ OfferSays box n units (Offered.Accepted serial) =
     (conforms (connection box n) (allowance box n) (box .counter) ≡ true) × (leb mostWaiting (length (waiting box)) ≡ false) ×
     (serial ≡ suc (box .accepted))
 
+-- It does say so.
 pub offer-says : (box : Box) (n units : ℕ) → OfferSays box n units (offerAnswer box n units)
 unfolding offerAnswer
 offer-says box n units =
@@ -108,6 +108,7 @@ StepSays box (Stepped.Departed serial connection arrival departure) =
     StepGoes box × (p : Packet) × (units : ℕ) × (linkTaken (box .link) (box .queues) ≡ carries p units) × (leb units 1 ≡ true) ×
     (serial ≡ p .serial) × (connection ≡ p .connection) × (arrival ≡ p .arrival) × (departure ≡ suc (box .counter))
 
+-- It does say so.
 pub step-says : (box : Box) → StepSays box (stepAnswer box)
 unfolding stepAnswer sentAnswer
 step-says box =

@@ -1,26 +1,24 @@
 -- The scheduling fact holds after every run, for every set of packets that with a packet has all that go before it.
-use Prim.Native.Nat.{ℕ, zero, suc, _+_, _-_, _≤_, _<_}
-use mathlib.Core.Path.{_≡_, refl, sym, _∙_, ap, subst}
-use mathlib.Core.Bool.{Bool, true, false}
-use mathlib.Core.List.{List, [], _∷_, _++_, flatten, List·Memᴰ, Memᴰ·append-left}
-use mathlib.Core.Logic.{_⊎_, inl, inr, ⊎-elim}
+use Prim.Native.Nat.{ℕ, suc, _<_}
+use mathlib.Core.Path.{_≡_, refl, subst}
+use mathlib.Core.Bool.{Bool, true}
+use mathlib.Core.List.{List, [], _∷_, _++_, List·Memᴰ, Memᴰ·append-left}
+use mathlib.Core.Logic.{inl, inr, ⊎-elim}
 use native.Mathlib.Omega.{arith}
 use Rattle.laws.specs.Sums.{sumOf}
-use Rattle.laws.specs.Putting.{Put, Same}
-use Rattle.meaning.specs.declared.Offered.{Offered}
+use Rattle.laws.specs.Putting.{Same}
 use Rattle.meaning.specs.Numbers.{Settings}
-use Rattle.meaning.specs.Box.{Box, Packet, Link, free, carries, waiting, rankIn, sound}
+use Rattle.meaning.specs.Box.{Box, Packet, Link, waiting, rankIn}
 use Rattle.meaning.specs.Queues.{emptyQueues}
 use Rattle.meaning.specs.Calls.{newBox, withStanding, afterOffer}
-use Rattle.meaning.specs.Step.{linkTaken, queuesTaken, linkSent, moved}
-use Rattle.meaning.proofs.Facts.{PacketFacts}
+use Rattle.meaning.specs.Step.{linkSent, moved}
 use Rattle.meaning.proofs.QueueLaws.{empty-flatten}
 use Rattle.guarantees.specs.Runs.{Departure}
-use Rattle.guarantees.proofs.Saying.{OfferSays, StepGoes}
+use Rattle.guarantees.proofs.Saying.{StepGoes}
 use Rattle.guarantees.proofs.Choosing.{Before}
-use Rattle.guarantees.proofs.Backlog.{waitingWork, linkWork, Busy, Backlog, OnLink, accept-keeps}
+use Rattle.guarantees.proofs.Backlog.{waitingWork, linkWork, Backlog, accept-keeps}
 use Rattle.guarantees.proofs.Sending.{take-keeps, send-keeps, idle-keeps}
-use Rattle.guarantees.proofs.Moves.{Move, refused, joins, accepts, idles, sends, departs, newPacket, Grows, move-grows, rank-stays}
+use Rattle.guarantees.proofs.Moves.{Move, refused, joins, accepts, idles, sends, departs, newPacket, Grows, move-grows, rank-stays, accepting, AcceptSays}
 use Rattle.guarantees.proofs.Effects.{accepted-put, Taking, nothing, takes, carrying, taking, stepped-same}
 use Rattle.guarantees.proofs.Known.{Known}
 
@@ -59,7 +57,7 @@ scheduled-steps box H go g k s q closed =
 
     step : {l : Link} {W W′ : List Packet} → Taking box l W → Same W W′ → Backlog q (box .counter) (waiting box) (box .link) H →
         Backlog q (suc (box .counter)) W′ (linkSent l) H
-    step (nothing e) same b = unfold linkSent in idle-keeps q (suc (box .counter)) _ H same
+    step (nothing e w) same b = unfold linkSent in idle-keeps q (suc (box .counter)) _ H same
     step (takes p W e put there others first) same b =
         let c = k .packets-ok p (k .waiting-known p there) in
         send-keeps q (box .counter) W _ H p (p .units) (c .units-least) same
@@ -69,13 +67,13 @@ scheduled-steps box H go g k s q closed =
         (subst (λ (l : Link). Backlog q (box .counter) (waiting box) l H) e b)
 
 -- An accepted packet keeps the fact.
-scheduled-accepts : (box : Box) (H : List Packet) (n units : ℕ) → OfferSays box n units (Offered.Accepted (suc (box .accepted))) →
-    Grows box (afterOffer box n units (Offered.Accepted (suc (box .accepted)))) → Known box H → Scheduled box H →
-    Scheduled (afterOffer box n units (Offered.Accepted (suc (box .accepted)))) (H ++ (newPacket box n units ∷ []))
+scheduled-accepts : (box : Box) (H : List Packet) (n units : ℕ) → AcceptSays box n units →
+    Grows box (accepting box n units) → Known box H → Scheduled box H →
+    Scheduled (accepting box n units) (H ++ (newPacket box n units ∷ []))
 unfolding afterOffer
 scheduled-accepts box H n units says g k s q closed =
     let before = s q (closed-before box _ H _ q g k (λ x m. Memᴰ·append-left (newPacket box n units ∷ []) m) closed) in
-    accept-keeps q (box .counter) (waiting box) (waiting (afterOffer box n units (Offered.Accepted (suc (box .accepted)))))
+    accept-keeps q (box .counter) (waiting box) (waiting (accepting box n units))
     (box .link) H (newPacket box n units) (accepted-put box (says .0) n units (says .1)) refl
     (λ x m. k .packets-ok x (k .waiting-known x m) .units-least) (k .link-known) before
 

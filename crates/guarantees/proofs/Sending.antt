@@ -1,19 +1,19 @@
 -- The scheduling fact is kept by a step: the next packet is taken, and a unit is sent.
-use Prim.Native.Nat.{ℕ, zero, suc, _+_, _-_, _≤_, _<_}
+use Prim.Native.Nat.{ℕ, suc, _+_, _-_, _≤_}
 use mathlib.Core.Path.{_≡_, refl, sym, _∙_, ap}
-use mathlib.Core.Bool.{Bool, true, false, cond, not, _&&_, true≢false}
-use mathlib.Core.List.{List, [], _∷_, _++_, List·Memᴰ}
+use mathlib.Core.Bool.{Bool, true, false, cond, not, true≢false}
+use mathlib.Core.List.{List, [], List·Memᴰ}
 use mathlib.Core.Logic.{_⊎_, inl, inr, ⊎-elim}
-use lib.Dec.{leb, ltb, eqb}
-use borrow.Author.Tests.{leb-true, leb-false, le-leb}
+use lib.Dec.{leb}
+use borrow.Author.Tests.{leb-true, leb-false}
 use native.Mathlib.Omega.{arith}
 use Rattle.laws.specs.Tests.{bool-cases}
 use Rattle.laws.specs.Sums.{sumOf}
 use Rattle.laws.specs.SumLaws.{given, given-true, given-false, sum-zero}
 use Rattle.laws.specs.Putting.{Put, Same}
-use Rattle.meaning.specs.Box.{Packet, Link, free, carries}
+use Rattle.meaning.specs.Box.{Packet, free, carries}
 use Rattle.meaning.specs.Step.{linkSent}
-use Rattle.guarantees.proofs.Backlog.{waitingWork, linkWork, linkOther, arrivedSince, InTheWay, Busy, Backlog}
+use Rattle.guarantees.proofs.Backlog.{waitingWork, linkWork, linkOther, Backlog}
 
 -- What a sent unit leaves on the link: nothing, or the same packet with a unit less.
 pub sent-cases : (p : Packet) (left : ℕ) → ((left ≤ 1) × (linkSent (carries p left) ≡ free)) ⊎ ((2 ≤ left) × (linkSent (carries p left) ≡ carries p (left - 1)))
@@ -24,6 +24,12 @@ sent-cases p left = go (leb left 1) refl
         ((left ≤ 1) × (cond b free (carries p (left - 1)) ≡ free)) ⊎ ((2 ≤ left) × (cond b free (carries p (left - 1)) ≡ carries p (left - 1)))
     go true e = inl (leb-true left 1 e, refl)
     go false e = inr (leb-false left 1 e, refl)
+
+-- The packet that a sent unit leaves on the link is the one that was there.
+pub sent-is : (p : Packet) (l : ℕ) (x : Packet) (left : ℕ) → linkSent (carries p l) ≡ carries x left → x ≡ p
+sent-is p l x left h =
+    ⊎-elim (λ (c : (l ≤ 1) × (linkSent (carries p l) ≡ free)). absurd (let i = c .1 in let z : _≡_ {A = ℕ} 0 1 = cc in omega arith))
+    (λ (c : (2 ≤ l) × (linkSent (carries p l) ≡ carries p (l - 1))). let i = c .1 in cc) (sent-cases p l)
 
 module _ (q : Packet → Bool) where
   -- The packet that is taken for a free link is of q if a packet of q waits, so the fact is kept.
@@ -92,9 +98,7 @@ module _ (q : Packet → Bool) where
         begun = (let k = b .begun in omega arith);
         account = (let s = same .sums (λ p. given (q p) (p .units)) in let w = sent-work p left h .0 in let a = b .account in omega arith);
         waits = λ x m e. b .waits x (same .parts x m) e;
-        carried = λ x l k e. ⊎-elim (λ (c : (left ≤ 1) × (linkSent (carries p left) ≡ free)). absurd (let g = c .1 in let z : _≡_ {A = ℕ} 0 1 = cc in omega arith))
-            (λ (c : (2 ≤ left) × (linkSent (carries p left) ≡ carries p (left - 1))). let g = c .1 in let y : x ≡ p = cc in
-            rw y (b .carried p left refl (rw y at e))) (sent-cases p left);
+        carried = λ x l k e. let y = sent-is p left x l k in rw y (b .carried p left refl (rw y at e));
         way = b .way;
       })
 

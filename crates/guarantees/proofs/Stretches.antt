@@ -1,22 +1,20 @@
 -- The slots at which a connection's packets were accepted: if each of them fitted when it came, no closed stretch has more than it may.
-use Prim.Native.Nat.{ℕ, zero, suc, _+_, _*_, _-_, _/_, _≤_, _<_}
-use mathlib.Core.Path.{_≡_, refl, sym, _∙_, ap}
-use mathlib.Core.Bool.{Bool, true, false, cond, _&&_, and-eq-true-iff}
-use mathlib.Core.List.{List, [], _∷_, _++_, append-assoc, List·Memᴰ, List·Memᴰ·head, List·Memᴰ·tail}
-use mathlib.Core.Logic.{_⊎_, inl, inr, ⊎-elim}
+use Prim.Native.Nat.{ℕ, suc, _+_, _*_, _-_, _≤_}
+use mathlib.Core.Path.{_≡_, refl}
+use mathlib.Core.Bool.{Bool, true, false, cond, _&&_}
+use mathlib.Core.List.{List, [], _∷_, _++_, List·Memᴰ, List·Memᴰ·head, List·Memᴰ·tail}
 use lib.Dec.{leb, eqb}
 use borrow.Author.Tests.{leb-true, eqb-true, eq-eqb, ne-eqb}
-use native.Mathlib.Nat.{mul-le-mul-left, mul-add}
 use native.Mathlib.Omega.{arith}
-use Rattle.laws.specs.Tests.{within, within-facts, within-test, bool-cases, everyBelow, everyBelow-at}
-use Rattle.laws.specs.Sums.{sumOf}
-use Rattle.laws.specs.SumLaws.{given, sum-append, sum-one}
+use Rattle.laws.specs.Tests.{within, within-facts, within-test, everyBelow-at}
+use Rattle.laws.specs.Sums.{sumOf, sum-append}
+use Rattle.laws.specs.SumLaws.{given}
 use Rattle.laws.specs.Division.{div-mono}
 use Rattle.meaning.specs.Numbers.{Connection}
 use Rattle.meaning.specs.Envelope.{mayHave, countIn, fits}
 use Rattle.meaning.specs.Box.{Packet}
 use Rattle.meaning.proofs.RecordFits.{Descending}
-use Rattle.guarantees.specs.Runs.{slotsOf}
+use Rattle.guarantees.specs.Runs.{slotsOf, WithinEnvelope}
 use Rattle.guarantees.proofs.Ahead.{unitsIn}
 
 -- One more packet is the last accepted.
@@ -58,13 +56,9 @@ count-shrinks top at x y (a ∷ slots) d h =
         rw (within-test x a at (w .0) (let o = d .0 in omega arith)) (omega arith)
     go false e i = omega arith
 
--- Over every closed stretch these packets are at most b + floor(t/T).
-abbrev pub WithinMay : Connection → List ℕ → Type 0
-WithinMay c slots = (x t : ℕ) → countIn slots x (x + t) ≤ mayHave c t
-
--- A packet that fits keeps that.
+-- A packet that fits keeps the envelope.
 pub fitting-keeps : (c : Connection) → 1 ≤ c .period → (at : ℕ) (slots : List ℕ) → Descending at slots → fits (mayHave c) slots at ≡ true →
-    WithinMay c slots → WithinMay c (at ∷ slots)
+    WithinEnvelope c slots → WithinEnvelope c (at ∷ slots)
 unfolding fits
 fitting-keeps c period at slots d f w x t = go (within x at (x + t)) refl
   where

@@ -1,28 +1,23 @@
--- Document 01, "Admission": the finite search decides the conditions at every t without end. Over any envelope with the laws of
--- `IsEnvelope`; equation (31) is the instance.
-use Prim.Native.Nat.{ℕ, zero, suc, _+_, _*_, _-_, _/_, _≤_, _<_}
+-- Document 01, "Admission": the finite search decides the conditions at every t without end. Equation (31) has the laws of
+-- `IsEnvelope`; the rest is for any envelope that has them.
+use Prim.Native.Nat.{ℕ, _+_, _*_, _/_, _≤_, _<_}
 use mathlib.Core.Path.{_≡_, refl, sym, _∙_, ap}
 use mathlib.Core.Bool.{Bool, true, false, cond, not, _&&_, _||_, and-eq-true-iff, true≢false}
-use mathlib.Core.List.{List, [], _∷_, _++_, List·Memᴰ, List·Memᴰ·append-cases, List·Memᴰ·eq-of-singleton}
-use lib.Dec.{leb, ltb, eqb}
-use lib.ListN.{length}
-use borrow.Author.Tests.{leb-true, leb-false, le-leb, lt-leb, lt-ltb, ltb-true, ltb-false, le-ltb, eqb-true, eqb-false, not-true}
-use mathlib.Core.Logic.{_⊎_, inl, inr, ⊎-elim}
-use native.Mathlib.Nat.{mul-le-mul-left, mul-add}
-use native.Mathlib.Decide.{decLt, decLe}
+use mathlib.Core.List.{List, _∷_, _++_, List·Memᴰ}
+use lib.Dec.{leb, ltb}
+use borrow.Author.Tests.{leb-true, leb-false, le-leb, lt-ltb, ltb-true}
+use mathlib.Core.Logic.{⊎-elim}
+use native.Mathlib.Nat.{mul-le-mul-left}
 use native.Mathlib.Omega.{arith}
-use Rattle.laws.specs.Tests.{every, every-at, bool-cases}
-use Rattle.laws.specs.Search.{Search, failsAt, holds, firstFailing}
-use Rattle.laws.specs.Sums.{sumOf, largestOf}
-use Rattle.laws.specs.SumLaws.{sum-same, sum-add, sum-put, largest-put}
-use Rattle.laws.specs.Finding.{Least, first-failing-fails, first-failing-holds}
+use Rattle.laws.specs.Tests.{bool-cases}
+use Rattle.laws.specs.SumLaws.{sum-put, largest-put}
 use Rattle.laws.specs.Division.{div-mono, div-add-multiple}
-use Rattle.laws.specs.Gaining.{all-follow, some-passes}
-use Rattle.meaning.specs.Numbers.{Settings, Connection, bound, largestBound, connectionAllowed, classCount, factor, settingsAllowed}
-use Rattle.meaning.specs.Envelope.{mayHave, envelope, delayed, IsEnvelope}
-use Rattle.meaning.specs.Admission.{term, sumAt, inTheWay, eleven, twelveRange, twelve, conditionAt, HoldsWithoutEnd, rate, rateHolds, finiteSearch}
-use Rattle.meaning.proofs.Facts.{ConnectionFacts, connection-facts, SettingsFacts, settings-facts}
+use Rattle.meaning.specs.Numbers.{Settings, Connection, bound, largestBound}
+use Rattle.meaning.specs.Envelope.{mayHave, envelope, IsEnvelope}
+use Rattle.meaning.specs.Admission.{term, sumAt, inTheWay, eleven, twelveRange, twelve, conditionAt, HoldsWithoutEnd, rate, rateHolds}
+use Rattle.meaning.proofs.Facts.{ConnectionFacts, SettingsFacts}
 use Rattle.guarantees.proofs.Classes.{bound-most}
+use Rattle.guarantees.proofs.AnyEnvelope.{sums-follow, sums-pass}
 
 -- What a connection gains over each cycle M: s x (M/T).
 unfoldable pub gain : Settings → Connection → ℕ
@@ -39,37 +34,12 @@ envelope-laws set c f =
           ap (λ n. c .longest * (c .burst + n)) d ∙ (omega arith);
     }
 
--- An envelope that is put off by d repeats once t has reached d.
-delayed-repeats : (E : ℕ → ℕ) (s M g d t : ℕ) → IsEnvelope E s M g → d ≤ t → delayed E d (t + M) ≡ delayed E d t + g
-unfolding delayed
-delayed-repeats E s M g d t law h =
-    let a : leb d (t + M) ≡ true = le-leb d (t + M) (omega arith) in
-    let b : leb d t ≡ true = le-leb d t h in
-    let e : t + M - d ≡ t - d + M = omega arith in
-    rw (a, b, e) (law .repeats (t - d))
-
--- So does a connection's part of the sum.
-term-repeats : (set : Settings) (c : Connection) (s g t : ℕ) → IsEnvelope (envelope c) s (set .cycle) g →
-    bound set (c .class) ≤ t → term set (t + set .cycle) c ≡ term set t c + g
-unfolding term
-term-repeats set c s g t law h = by-class (eqb (c .class) 1)
-  where
-    d : ℕ
-    d = bound set (c .class)
-
-    by-class : (b : Bool) →
-        cond b (delayed (envelope c) d (t + set .cycle)) (delayed (envelope c) d (t + set .cycle + set .interval)) ≡
-        cond b (delayed (envelope c) d t) (delayed (envelope c) d (t + set .interval)) + g
-    by-class true = delayed-repeats (envelope c) s (set .cycle) g d t law h
-    by-class false =
-        let e : t + set .cycle + set .interval ≡ t + set .interval + set .cycle = omega arith in
-        rw e (delayed-repeats (envelope c) s (set .cycle) g d (t + set .interval) law (omega arith))
-
 -- Both conditions at t, as numbers.
 pub record ConditionFacts (set : Settings) (cs : List Connection) (t : ℕ) : Type 0 where
   pub eleven-holds : sumAt set cs t ≤ t
   pub twelve-holds : bound set 1 ≤ t → t + set .interval < largestBound set → sumAt set cs t + inTheWay set cs t ≤ t
 
+-- What the tests of (11) and (12) say.
 pub condition-facts : (set : Settings) (cs : List Connection) (t : ℕ) → conditionAt set cs t ≡ true → ConditionFacts set cs t
 unfolding conditionAt eleven twelve twelveRange
 condition-facts set cs t e =
@@ -84,6 +54,7 @@ condition-facts set cs t e =
     in-range true false p q e = absurd (true≢false (sym q))
     in-range false b p q e = absurd (true≢false (sym p))
 
+-- And back.
 pub condition-test : (set : Settings) (cs : List Connection) (t : ℕ) → ConditionFacts set cs t → conditionAt set cs t ≡ true
 unfolding conditionAt eleven twelve twelveRange
 condition-test set cs t f =
@@ -98,38 +69,37 @@ condition-test set cs t f =
     out-or-in true false h = refl
     out-or-in false b h = refl
 
--- A set of connections in a box, each with an envelope that has the laws: nothing below opens `envelope`.
-module _ (set : Settings) (sf : SettingsFacts set) (cs : List Connection)
-    (facts : (c : Connection) → List·Memᴰ c cs → ConnectionFacts set c)
-    (laws : (c : Connection) → List·Memᴰ c cs → IsEnvelope (envelope c) (c .longest) (set .cycle) (gain set c)) where
-  sum-repeats : (t : ℕ) → largestBound set ≤ t → sumAt set cs (t + set .cycle) ≡ sumAt set cs t + rate set cs
-  unfolding sumAt rate gain
-  sum-repeats t h =
-      sum-same (term set (t + set .cycle)) (λ c. term set t c + gain set c) cs
-      (λ c m. let f = facts c m in let b = bound-most set sf (c .class) (f .class-least) (f .class-most) in
-      term-repeats set c (c .longest) (gain set c) t (laws c m) (omega arith)) ∙
-      sum-add (term set t) (gain set) cs
+-- A set of connections in a box that keep the table of numbers, with the envelopes of (31).
+module _ (set : Settings) (sf : SettingsFacts set) (cs : List Connection) (facts : (c : Connection) → List·Memᴰ c cs → ConnectionFacts set c) where
+  -- Every bound is at most dP.
+  reach : (c : Connection) → List·Memᴰ c cs → bound set (c .class) ≤ largestBound set
+  reach c m = let f = facts c m in bound-most set sf (c .class) (f .class-least) (f .class-most)
+
+  -- Every envelope has the laws.
+  laws : (c : Connection) → List·Memᴰ c cs → IsEnvelope (envelope c) (c .longest) (set .cycle) (gain set c)
+  laws c m = envelope-laws set c (facts c m)
 
   -- "all t follow from t = 0 to dP + M - 1, because each envelope repeats with M."
   pub all-slots-follow : rateHolds set cs ≡ true →
       ((t : ℕ) → t < largestBound set + set .cycle → conditionAt set cs t ≡ true) → HoldsWithoutEnd set cs
-  unfolding rateHolds
   all-slots-follow r h t =
       condition-test set cs t (record {
-        eleven-holds = all-follow (sumAt set cs) (largestBound set) (set .cycle) (rate set cs) sum-repeats (leb-true _ _ r)
-            (sf .cycle-least) (λ k l. condition-facts set cs k (h k l) .eleven-holds) t;
+        eleven-holds = unfold sumAt term rate rateHolds gain in
+            sums-follow envelope (gain set) set cs reach laws (leb-true _ _ r) (sf .cycle-least)
+            (λ k l. condition-facts set cs k (h k l) .eleven-holds) t;
         twelve-holds = λ a b. condition-facts set cs t (h t (omega arith)) .twelve-holds a b;
       })
 
   -- "if the rate exceeds M, some t fails."
   pub some-slot-fails : rateHolds set cs ≡ false → (t : ℕ) × (conditionAt set cs t ≡ false)
-  unfolding rateHolds
-  some-slot-fails r =
-      let p = some-passes (sumAt set cs) (largestBound set) (set .cycle) (rate set cs) sum-repeats (leb-false _ _ r) in
-      (p .0, failing (p .0) (p .1))
+  some-slot-fails r = (passes .0, failing (passes .0) (passes .1))
     where
+      passes : (t : ℕ) × (t < sumAt set cs t)
+      passes = unfold sumAt term rate rateHolds gain in sums-pass envelope (gain set) set cs reach laws (leb-false _ _ r)
+
       failing : (t : ℕ) → t < sumAt set cs t → conditionAt set cs t ≡ false
-      failing t h = ⊎-elim (λ e. absurd (let f = condition-facts set cs t e .eleven-holds in omega arith)) (λ e. e) (bool-cases (conditionAt set cs t))
+      failing t h =
+          ⊎-elim (λ e. absurd (let f = condition-facts set cs t e .eleven-holds in omega arith)) (λ e. e) (bool-cases (conditionAt set cs t))
 
 -- Taking a connection out of a set never makes a condition fail that held.
 pub taking-out-keeps : (set : Settings) (l : List Connection) (c : Connection) (m : List Connection) (t : ℕ) →

@@ -1,16 +1,21 @@
 -- A run: any list of admissions, offers and steps from a new box, refused ones among them, and the history that its own calls and
 -- answers tell.
-use Prim.Native.Nat.{ℕ, suc}
+use Prim.Native.Nat.{ℕ, zero, suc, _+_, _≤_}
+use mathlib.Core.Path.{_≡_}
 use mathlib.Core.Bool.{Bool, true, cond, _&&_, _||_, not}
-use mathlib.Core.List.{List, [], _∷_, _++_}
+use mathlib.Core.List.{List, [], _∷_, _++_, List·Memᴰ}
+use mathlib.Core.Logic.{_⊎_}
 use lib.Dec.{eqb, ltb}
 use Rattle.laws.specs.Tests.{every}
 use Rattle.meaning.specs.declared.Admitted.{Admitted}
 use Rattle.meaning.specs.declared.Offered.{Offered}
 use Rattle.meaning.specs.declared.Stepped.{Stepped}
-use Rattle.meaning.specs.Numbers.{Connection}
-use Rattle.meaning.specs.Box.{Box, Packet}
-use Rattle.meaning.specs.Calls.{admissionAnswer, afterAdmission, offerAnswer, afterOffer}
+use Rattle.laws.specs.Sums.{sumOf}
+use Rattle.laws.specs.SumLaws.{given}
+use Rattle.meaning.specs.Numbers.{Settings, Connection, bound}
+use Rattle.meaning.specs.Envelope.{mayHave, countIn}
+use Rattle.meaning.specs.Box.{Box, Packet, carries, connection, waiting}
+use Rattle.meaning.specs.Calls.{newBox, admissionAnswer, afterAdmission, offerAnswer, afterOffer}
 use Rattle.meaning.specs.Step.{stepAnswer, afterStep}
 
 -- A call: a connection asks for admission, a packet of this connection and length is offered, or a step.
@@ -80,6 +85,11 @@ unfoldable pub slotsOf : ℕ → List Packet → List ℕ
 slotsOf n [] = []
 slotsOf n (p ∷ ps) = slotsOf n ps ++ cond (eqb (p .connection) n) (p .arrival ∷ []) []
 
+-- Packets accepted at these slots keep a connection's envelope: over every closed stretch from slot x to slot x + t they are at
+-- most b + floor(t/T).
+abbrev pub WithinEnvelope : Connection → List ℕ → Type 0
+WithinEnvelope c slots = (x t : ℕ) → countIn slots x (x + t) ≤ mayHave c t
+
 -- A reported departure: serial, connection, arrival and departure.
 pub record Departure : Type 0 where
   pub serial : ℕ
@@ -112,3 +122,36 @@ departedIn (e ∷ es) = packetLeft (e .answer) ++ departedIn es
 unfoldable pub inOrder : List Departure → Bool
 inOrder [] = true
 inOrder (g ∷ gs) = every (λ h. not (eqb (g .connection) (h .connection)) || ltb (g .serial) (h .serial)) gs && inOrder gs
+
+-- The n numbers from k on.
+unfoldable pub countFrom : ℕ → ℕ → List ℕ
+countFrom k zero = []
+countFrom k (suc n) = k ∷ countFrom (suc k) n
+
+-- How often this serial is among these packets.
+unfoldable pub timesAmong : ℕ → List Packet → ℕ
+timesAmong n ps = sumOf (λ p. given (eqb (p .serial) n) 1) ps
+
+-- How often it is among these departures.
+unfoldable pub timesDeparted : ℕ → List Departure → ℕ
+timesDeparted n gs = sumOf (λ g. given (eqb (g .serial) n) 1) gs
+
+-- A packet is in the box: it waits or is on the link.
+abbrev pub InBox : Box → Packet → Type 0
+InBox box p = List·Memᴰ p (waiting box) ⊎ ((left : ℕ) × (box .link ≡ carries p left))
+
+-- The slot by which a packet of connection n that arrived at this slot is to have departed: its class's bound later.
+unfoldable pub dueBy : Box → ℕ → ℕ → ℕ
+dueBy box n arrival = arrival + bound (box .settings) (connection box n .class)
+
+-- The box after a run from a new box.
+abbrev pub boxOf : Settings → List Call → Box
+boxOf set calls = boxAfter (newBox set) calls
+
+-- The packets that it accepted.
+abbrev pub acceptedOf : Settings → List Call → List Packet
+acceptedOf set calls = acceptedIn (trace (newBox set) calls)
+
+-- The departures that it reported.
+abbrev pub departedOf : Settings → List Call → List Departure
+departedOf set calls = departedIn (trace (newBox set) calls)

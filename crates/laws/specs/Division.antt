@@ -1,8 +1,7 @@
 -- Division by a variable: monotone, and a stretch of whole divisors comes off.
-use Prim.Native.Nat.{ℕ, zero, suc, _+_, _*_, _/_, _%_, _≤_, _<_}
-use mathlib.Core.Path.{_≡_, refl, sym, _∙_, ap}
-use native.Mathlib.Nat.{le-div-iff-mul-le, div-mul-le-self, add-mul-div-left, dvd-of-mod-eq-zero, mul-div-cancel', lt-div-mul-add, le-trans}
-use native.Mathlib.Omega.{arith}
+use Prim.Native.Nat.{ℕ, _+_, _*_, _/_, _%_, _≤_, _<_}
+use mathlib.Core.Path.{_≡_, sym, _∙_, ap}
+use native.Mathlib.Nat.{le-div-iff-mul-le, div-mul-le-self, add-mul-div-left, dvd-of-mod-eq-zero, mul-div-cancel', le-trans}
 
 -- a quotient does not fall
 pub div-mono : {m n : ℕ} (k : ℕ) → 0 < k → m ≤ n → m / k ≤ n / k

@@ -1,10 +1,10 @@
 -- What the two answers of the search for a first failing number say.
 use Prim.Native.Nat.{ℕ, zero, suc, _+_, _≤_, _<_}
-use mathlib.Core.Path.{_≡_, refl, sym, _∙_}
+use mathlib.Core.Path.{_≡_, refl}
 use mathlib.Core.Bool.{Bool, true, false}
-use native.Mathlib.Decide.{decLt, decLe}
+use native.Mathlib.Decide.{decLt}
 use native.Mathlib.Omega.{arith}
-use Rattle.laws.specs.Search.{Search, failsAt, holds, searchFrom, firstFailing}
+use Rattle.laws.specs.Search.{failsAt, holds, searchFrom, firstFailing}
 
 -- u is the least number, of those from t on, at which the test fails.
 pub record Least (test : ℕ → Bool) (t u : ℕ) : Type 0 where
@@ -12,6 +12,7 @@ pub record Least (test : ℕ → Bool) (t u : ℕ) : Type 0 where
   pub fails : test u ≡ false
   pub below : (k : ℕ) → t ≤ k → k < u → test k ≡ true
 
+-- the same, for a search from t on
 search-fails : (test : ℕ → Bool) (n t : ℕ) (b : Bool) → test t ≡ b → (u : ℕ) → searchFrom test n t b ≡ failsAt u → (u < t + n) × Least test t u
 unfolding searchFrom
 search-fails test zero t b e u q = absurd (let z : _≡_ {A = ℕ} 0 1 = cc in omega arith)
@@ -29,6 +30,7 @@ search-fails test (suc n) t true e u q =
       },
     )
 
+-- the same, for a search from t on
 search-holds : (test : ℕ → Bool) (n t : ℕ) (b : Bool) → test t ≡ b → searchFrom test n t b ≡ holds → (k : ℕ) → t ≤ k → k < t + n → test k ≡ true
 unfolding searchFrom
 search-holds test zero t b e q k h l = absurd (omega arith)

@@ -1,11 +1,12 @@
 -- A function of slots that gains g over each M from some slot on, against the slots themselves.
 use Prim.Native.Nat.{ℕ, zero, suc, _+_, _*_, _-_, _≤_, _<_}
-use mathlib.Core.Path.{_≡_, refl, sym, _∙_, ap}
+use mathlib.Core.Path.{_≡_, _∙_, ap}
 use native.Mathlib.Nat.{mul-le-mul-left}
 use native.Mathlib.Decide.{decLt}
 use native.Mathlib.Omega.{arith}
 
 module _ (S : ℕ → ℕ) (from M g : ℕ) (repeats : (t : ℕ) → from ≤ t → S (t + M) ≡ S t + g) where
+  -- k cycles later it has gained k times
   after-cycles : (k : ℕ) → S (from + k * M) ≡ S from + k * g
   after-cycles zero =
       let e : from + zero * M ≡ from = omega arith in
@@ -18,6 +19,7 @@ module _ (S : ℕ → ℕ) (from M g : ℕ) (repeats : (t : ℕ) → from ≤ t 
       let r : S (from + k * M + M) ≡ S from + suc k * g = omega arith in
       ap S e ∙ r
 
+  -- the slots below n, one after another
   up-to : g ≤ M → 1 ≤ M → ((t : ℕ) → t < from + M → S t ≤ t) → (n t : ℕ) → t < n → S t ≤ t
   up-to h m base zero t l = absurd (omega arith)
   up-to h m base (suc n) t l =

@@ -1,9 +1,8 @@
 -- A sum over a list, taken group by group: the groups are numbered, and compared with what another list gives for each number.
 use Prim.Native.Nat.{ℕ, zero, suc, _+_, _≤_, _<_}
-use mathlib.Core.Path.{_≡_, refl, sym, _∙_, ap}
-use mathlib.Core.Bool.{Bool, true, false}
+use mathlib.Core.Path.{_≡_, refl, sym, ap}
 use mathlib.Core.List.{List, [], _∷_, List·Memᴰ, List·Memᴰ·head, List·Memᴰ·tail}
-use native.Mathlib.Decide.{decLt, ℕ-discrete}
+use native.Mathlib.Decide.{decLt}
 use native.Mathlib.Omega.{arith}
 use lib.Dec.{eqb}
 use lib.ListN.{length, getD}
@@ -16,16 +15,19 @@ unfoldable pub across : (ℕ → ℕ) → ℕ → ℕ → ℕ
 across g n zero = 0
 across g n (suc k) = g n + across g (suc n) k
 
+-- sums of two add up
 across-add : (g h : ℕ → ℕ) (n k : ℕ) → across (λ j. g j + h j) n k ≡ across g n k + across h n k
 unfolding across
 across-add g h n zero = refl
 across-add g h n (suc k) = let i = across-add g h (suc n) k in omega arith
 
+-- a sum of nothing
 across-zero : (n k : ℕ) → across (λ j. 0) n k ≡ 0
 unfolding across
 across-zero n zero = refl
 across-zero n (suc k) = let i = across-zero (suc n) k in omega arith
 
+-- a number below the range is not met in it
 across-none : (at m n k : ℕ) → at < n → across (λ j. given (eqb at j) m) n k ≡ 0
 unfolding across
 across-none at m n zero h = refl
@@ -34,6 +36,7 @@ across-none at m n (suc k) h =
     let i = across-none at m (suc n) k (omega arith) in
     omega arith
 
+-- a number of the range is met once
 across-one : (at m n k : ℕ) → n ≤ at → at < n + k → across (λ j. given (eqb at j) m) n k ≡ m
 unfolding across
 across-one at m n zero h l = absurd (omega arith)

@@ -1,11 +1,10 @@
 -- A list with one more element put in somewhere, and a list with the same elements in another order, by what is used of them.
-use Prim.Native.Nat.{ℕ, zero, suc, _+_, _≤_, _<_}
-use mathlib.Core.Path.{_≡_, refl, sym, _∙_, ap}
-use mathlib.Core.List.{List, [], _∷_, _++_, flatten, List·Memᴰ, List·Memᴰ·head, List·Memᴰ·tail, List·Memᴰ·cases-cons, List·Memᴰ·append-cases, Memᴰ·append-left, Memᴰ·append-right}
-use mathlib.Core.Logic.{_⊎_, inl, inr, ⊎-elim}
+use Prim.Native.Nat.{ℕ, _+_}
+use mathlib.Core.Path.{_≡_, refl, _∙_}
+use mathlib.Core.List.{List, [], _∷_, _++_, flatten, List·Memᴰ}
+use mathlib.Core.Logic.{_⊎_}
 use native.Mathlib.Omega.{arith}
-use Rattle.laws.specs.Sums.{sumOf}
-use Rattle.laws.specs.SumLaws.{sum-append, sum-one}
+use Rattle.laws.specs.Sums.{sumOf, sum-append}
 
 -- m is l with a put in somewhere
 pub record Put {A : Type 0} (a : A) (l m : List A) : Type 0 where
@@ -18,9 +17,11 @@ pub record Same {A : Type 0} (l m : List A) : Type 0 where
   pub parts : (x : A) → List·Memᴰ x m → List·Memᴰ x l
 
 module _ {A : Type 0} where
+  -- a list has its own elements
   pub same-refl : (l : List A) → Same l l
   same-refl l = record { sums = λ f. refl; parts = λ x m. m }
 
+  -- one more list at the end
   pub sum-flatten-last : (f : A → ℕ) (qs : List (List A)) (q : List A) → sumOf f (flatten (qs ++ (q ∷ []))) ≡ sumOf f (flatten qs) + sumOf f q
   unfolding flatten sumOf
   sum-flatten-last f [] q = sum-append f q [] ∙ (omega arith)

@@ -1,9 +1,8 @@
 -- Laws of sums and of largest values over a list.
-use Prim.Native.Nat.{ℕ, zero, suc, _+_, _*_, _≤_, _<_, max}
-use mathlib.Core.Path.{_≡_, refl, sym, _∙_, ap}
-use mathlib.Core.Bool.{Bool, true, false, cond}
+use Prim.Native.Nat.{ℕ, _≤_}
+use mathlib.Core.Path.{_≡_, refl, ap}
+use mathlib.Core.Bool.{Bool, true, false}
 use mathlib.Core.List.{List, [], _∷_, _++_, List·Memᴰ, List·Memᴰ·head, List·Memᴰ·tail}
-use native.Mathlib.Nat.{add-assoc, zero-add}
 use native.Mathlib.Omega.{arith}
 use Rattle.laws.specs.Sums.{sumOf, largestOf}
 
@@ -12,20 +11,18 @@ unfoldable pub given : Bool → ℕ → ℕ
 given true n = n
 given false n = 0
 
+-- where it passes
 pub given-true : {b : Bool} (n : ℕ) → b ≡ true → given b n ≡ n
 unfolding given
 given-true n e = rw e
 
+-- where it fails
 pub given-false : {b : Bool} (n : ℕ) → b ≡ false → given b n ≡ 0
 unfolding given
 given-false n e = rw e
 
-pub given-most : (b : Bool) (n : ℕ) → given b n ≤ n
-unfolding given
-given-most true n = omega arith
-given-most false n = omega arith
-
 module _ {A : Type 0} where
+  -- equal parts, equal sums
   pub sum-same : (f g : A → ℕ) (l : List A) → ((a : A) → List·Memᴰ a l → f a ≡ g a) → sumOf f l ≡ sumOf g l
   unfolding sumOf
   sum-same f g [] h = refl
@@ -34,6 +31,7 @@ module _ {A : Type 0} where
       let y = sum-same f g l (λ b m. h b (List·Memᴰ·tail m)) in
       omega arith
 
+  -- smaller parts, a smaller sum
   pub sum-mono : (f g : A → ℕ) (l : List A) → ((a : A) → List·Memᴰ a l → f a ≤ g a) → sumOf f l ≤ sumOf g l
   unfolding sumOf
   sum-mono f g [] h = omega arith
@@ -42,16 +40,7 @@ module _ {A : Type 0} where
       let y = sum-mono f g l (λ b m. h b (List·Memᴰ·tail m)) in
       omega arith
 
-  pub sum-add : (f g : A → ℕ) (l : List A) → sumOf (λ a. f a + g a) l ≡ sumOf f l + sumOf g l
-  unfolding sumOf
-  sum-add f g [] = refl
-  sum-add f g (a ∷ l) = let y = sum-add f g l in omega arith
-
-  pub sum-append : (f : A → ℕ) (l m : List A) → sumOf f (l ++ m) ≡ sumOf f l + sumOf f m
-  unfolding sumOf
-  sum-append f [] m = omega arith
-  sum-append f (a ∷ l) m = let y = sum-append f l m in omega arith
-
+  -- a list of one
   pub sum-one : (f : A → ℕ) (a : A) → sumOf f (a ∷ []) ≡ f a
   unfolding sumOf
   sum-one f a = omega arith
@@ -61,6 +50,20 @@ module _ {A : Type 0} where
   unfolding sumOf
   sum-member f (x ∷ l) {a} (List·Memᴰ·head e) = let y : f a ≡ f x = ap f e in omega arith
   sum-member f (x ∷ l) (List·Memᴰ·tail m) = let y = sum-member f l m in omega arith
+
+  -- what is counted at all is found
+  pub sum-found : (test : A → Bool) (l : List A) → 1 ≤ sumOf (λ a. given (test a) 1) l → (a : A) × List·Memᴰ a l × (test a ≡ true)
+  unfolding sumOf
+  sum-found test [] h = absurd (omega arith)
+  sum-found test (a ∷ l) h = go (λ k. sum-found test l k) (test a) refl
+    where
+      later : test a ≡ false → 1 ≤ sumOf (λ a. given (test a) 1) l
+      later e = let g = given-false 1 e in omega arith
+
+      go : (1 ≤ sumOf (λ a. given (test a) 1) l → (x : A) × List·Memᴰ x l × (test x ≡ true)) → (b : Bool) → test a ≡ b →
+          (x : A) × List·Memᴰ x (a ∷ l) × (test x ≡ true)
+      go rest true e = (a, List·Memᴰ·head refl, e)
+      go rest false e = let r = rest (later e) in (r .0, List·Memᴰ·tail (r .1), r .2)
 
   -- a sum of nothing
   pub sum-zero : (f : A → ℕ) (l : List A) → ((a : A) → List·Memᴰ a l → f a ≡ 0) → sumOf f l ≡ 0
@@ -83,12 +86,8 @@ module _ {A : Type 0} where
   sum-put f [] a m = omega arith
   sum-put f (x ∷ l) a m = let y = sum-put f l a m in omega arith
 
+  -- nor the largest
   pub largest-put : (f : A → ℕ) (l : List A) (a : A) (m : List A) → largestOf f (l ++ m) ≤ largestOf f (l ++ (a ∷ m))
   unfolding largestOf
   largest-put f [] a m = omega arith
   largest-put f (x ∷ l) a m = let y = largest-put f l a m in omega arith
-
-  pub largest-append : (f : A → ℕ) (l m : List A) → largestOf f l ≤ largestOf f (l ++ m)
-  unfolding largestOf
-  largest-append f [] m = omega arith
-  largest-append f (x ∷ l) m = let y = largest-append f l m in omega arith
