@@ -9,8 +9,7 @@ use lib.ListN.{length}
 use lib.Dec.{leb, ltb}
 use borrow.Author.Tests.{le-leb, lt-leb, leb-true}
 use Rattle.laws.specs.Series.{series, series-last, series-append}
-use Rattle.laws.specs.Sums.{sumOf, largestOf}
-use Rattle.laws.specs.SumLaws.{sum-append}
+use Rattle.laws.specs.Sums.{sumOf, largestOf, sum-append}
 use Rattle.laws.specs.Tests.{same-test, bool-cases}
 use Rattle.meaning.specs.Numbers.{Settings, Connection, bound, connectionAllowed}
 use Rattle.meaning.specs.Admission.{term, sumAt, inTheWay, eleven, twelveRange, twelve, conditionAt, rate}
