@@ -14,6 +14,7 @@ pub mod LinesMost
 pub mod QueueLaws
 pub mod Readings
 pub mod RecordFits
+pub mod RestOfRun
 pub mod RunFits
 pub mod SlotsEnough
 pub mod TagsAndRanks

@@ -27,16 +27,16 @@ use Rattle.meaning.proofs.ArrivalSums.{from, next-slot, from-start}
 use Rattle.meaning.proofs.QueueLaws.{nothing-waits, nothing-taken, flatten-last, empty-flatten}
 
 -- What is left to send of a packet that waits, and one more.
-abbrev size : Packet → ℕ
+abbrev pub size : Packet → ℕ
 size p = suc (p .units)
 
 -- What is left to send of the packet on the link, and one more.
-linkWeight : Link → ℕ
+unfoldable pub linkWeight : Link → ℕ
 linkWeight free = 0
 linkWeight (carries p left) = suc left
 
 -- What is left to send, a packet counting for one unit more.
-weight : Box → ℕ
+unfoldable pub weight : Box → ℕ
 weight box = sumOf size (flatten (box .queues)) + linkWeight (box .link)
 
 -- Queues.
@@ -126,7 +126,7 @@ offer-weight box n units Offered.WrongLength = record { counter-stays = refl; mo
 offer-weight box n units Offered.NotFitting = record { counter-stays = refl; most = omega arith; least = omega arith }
 offer-weight box n units Offered.StoreFull = record { counter-stays = refl; most = omega arith; least = omega arith }
 
-abbrev arrivalSize : Placed Arrival → ℕ
+abbrev pub arrivalSize : Placed Arrival → ℕ
 arrivalSize a = suc (a .entry .units)
 
 offers-weight : (numbers : List ℕ) (l : List (Placed Arrival)) (box : Box) → Offering box (offerAll numbers l box .box) (sumOf arrivalSize l)
@@ -143,7 +143,7 @@ offers-weight numbers (a ∷ l) box =
     record { counter-stays = rest .counter-stays ∙ one .counter-stays; most = omega arith; least = omega arith }
 
 -- What falls with every slot: the slots up to the last arrival, the arrivals to come and what is left to send.
-potential : List (Placed Arrival) → Box → ℕ
+unfoldable pub potential : List (Placed Arrival) → Box → ℕ
 potential l box = suc (largestOf (λ a. a .entry .slot) l) - box .counter + from arrivalSize (box .counter) l + weight box
 
 -- A run that is not finished has an arrival to come or something to send.
@@ -185,7 +185,7 @@ not-finished l box f = go (every (λ a. ltb (a .entry .slot) (box .counter)) l) 
     go false e g = inl (some-to-come (box .counter) l e)
 
 -- The potential falls over a slot.
-falls : (numbers : List ℕ) (l : List (Placed Arrival)) (box : Box) → finished l box ≡ false
+pub falls : (numbers : List ℕ) (l : List (Placed Arrival)) (box : Box) → finished l box ≡ false
     → suc (potential l (moved (offerAll numbers (keep (λ a. eqb (a .entry .slot) (box .counter)) l) box .box))) ≤ potential l box
 unfolding potential moved
 falls numbers l box f =
@@ -201,7 +201,7 @@ falls numbers l box f =
     ⊎-elim (λ h. omega arith) (λ h. omega arith) (not-finished l box f)
 
 -- A refused step, or a run at its end, needs no more slots than one.
-stopped-same : (n k answer : ℕ) (l : List (Placed Arrival)) (numbers : List ℕ) (box : Box) (departed : ℕ) → 1 ≤ n
+pub stopped-same : (n k answer : ℕ) (l : List (Placed Arrival)) (numbers : List ℕ) (box : Box) (departed : ℕ) → 1 ≤ n
     → slots (n + k) (stopped answer) l numbers box departed ≡ slots n (stopped answer) l numbers box departed
 unfolding slots
 stopped-same zero k answer l numbers box departed h = absurd (let z = h in omega arith)
@@ -221,7 +221,7 @@ after-step-same n k l numbers box departed Stepped.CounterEnded h e = stopped-sa
 after-step-same n k l numbers box departed Stepped.TurnBlocked h e = stopped-same n k 11 l numbers box departed h
 
 -- Once there are more slots than the potential, still more change no line.
-enough : (n k : ℕ) (l : List (Placed Arrival)) (numbers : List ℕ) (box : Box) (departed : ℕ) → potential l box < n
+pub enough : (n k : ℕ) (l : List (Placed Arrival)) (numbers : List ℕ) (box : Box) (departed : ℕ) → potential l box < n
     → slots (n + k) (phase l box 0) l numbers box departed ≡ slots n (phase l box 0) l numbers box departed
 unfolding phase slots
 enough zero k l numbers box departed h = absurd (let z = h in omega arith)
@@ -260,7 +260,7 @@ admission-weight box c Admitted.TableFull = (refl, refl)
 admission-weight box c Admitted.RateExceeded = (refl, refl)
 admission-weight box c (Admitted.ConditionFails t) = (refl, refl)
 
-admissions-weight : (place : ℕ) (cs : List Connection) (box : Box)
+pub admissions-weight : (place : ℕ) (cs : List Connection) (box : Box)
     → (admitAll place cs box .box .counter ≡ box .counter) × (weight (admitAll place cs box .box) ≡ weight box)
 unfolding admitAll
 admissions-weight place [] box = (refl, refl)
@@ -269,11 +269,11 @@ admissions-weight place (c ∷ cs) box =
     let rest = admissions-weight (suc place) cs (afterAdmission box c (admissionAnswer box c)) in
     (rest .0 ∙ one .0, rest .1 ∙ one .1)
 
-new-weight : (opening : Settings) → weight (newBox opening) ≡ 0
+pub new-weight : (opening : Settings) → weight (newBox opening) ≡ 0
 unfolding weight newBox emptyQueues linkWeight
 new-weight opening = let e = ap (sumOf size) (empty-flatten {A = Packet} (suc (largestFactor opening))) ∙ no-size in omega arith
 
-start-potential : (l : List (Placed Arrival)) (box : Box) → box .counter ≡ 0 → weight box ≡ 0 → potential l box < slotsEnough l
+pub start-potential : (l : List (Placed Arrival)) (box : Box) → box .counter ≡ 0 → weight box ≡ 0 → potential l box < slotsEnough l
 unfolding potential slotsEnough
 start-potential l box c w =
     let e : from arrivalSize (box .counter) l ≡ sumOf arrivalSize l = ap (λ n. from arrivalSize n l) c ∙ from-start arrivalSize l in
