@@ -1,14 +1,14 @@
 -- Laws on tables of entries: their length, an entry by its number, and tables that stand in other words.
-use Prim.Native.Nat.{ℕ, zero, suc, _+_, _*_, _/_, _≤_, _<_}
-use mathlib.Core.Path.{_≡_, refl, sym, ap, ap₂, _∙_}
-use mathlib.Core.List.{List, [], _∷_, _++_, map, flatten}
+use Prim.Native.Nat.{ℕ, zero, suc, _+_, _-_, _*_, _≤_, _<_}
+use mathlib.Core.Path.{_≡_, refl, ap, ap₂, _∙_}
+use mathlib.Core.List.{List, _∷_, map, flatten}
 use native.Mathlib.Omega.{arith}
 use native.Mathlib.Nat.{not-suc-le-zero, mul-suc, mul-zero}
 use native.Mathlib.Numerals.{add-one, towards-suc}
 use lib.ListN.{length, getD, take, drop}
 use lib.Seq.{drop-cons, drop-drop, take-add}
 use Rattle.meaning.specs.Numbers
-use Rattle.meaning.specs.Plan.{Arrival, table, factorAt, connectionAt, arrivalAt, connectionWords, arrivalWords}
+use Rattle.meaning.specs.Plan.{table, factorAt, connectionAt, arrivalAt, connectionWords, arrivalWords}
 
 -- An entry that depends on its own words alone.
 abbrev pub Local : {A : Type 0} → (List ℕ → ℕ → A) → ℕ → Type 0
@@ -99,3 +99,24 @@ pub factors-back : (ws : List ℕ) (i n : ℕ) → i + n ≤ length ws → table
 unfolding table factorAt
 factors-back ws i zero h = refl
 factors-back ws i (suc n) h = rw (step ws i (omega arith), factors-back ws (i + 1) n (omega arith), add-one)
+
+module _ {A : Type 0} (entry : List ℕ → ℕ → A) (width : ℕ) where
+  pub take-table : (ws : List ℕ) (i n m : ℕ) → m ≤ n → take m (table entry width ws i n) ≡ table entry width ws i m
+  unfolding table
+  take-table ws i n zero h = refl
+  take-table ws i zero (suc m) h = absurd (not-suc-le-zero h)
+  take-table ws i (suc n) (suc m) h = ap (λ l. entry ws i ∷ l) (take-table ws (i + width) n m (omega arith))
+
+  pub drop-table : (ws : List ℕ) (i n m : ℕ) → drop m (table entry width ws i n) ≡ table entry width ws (i + width * m) (n - m)
+  unfolding table
+  drop-table ws i n zero =
+      let at : i ≡ i + width * 0 = omega (arith, mul-zero width) in
+      let all : n ≡ n - 0 = omega arith in
+      ap₂ (table entry width ws) at all
+  drop-table ws i zero (suc m) =
+      let none : 0 ≡ 0 - suc m = omega arith in
+      ap (table entry width ws (i + width * suc m)) none
+  drop-table ws i (suc n) (suc m) =
+      let at : i + width + width * m ≡ i + width * suc m = omega (arith, mul-suc width m) in
+      let left : n - m ≡ suc n - suc m = omega arith in
+      drop-table ws (i + width) n m ∙ ap₂ (table entry width ws) at left

@@ -1,18 +1,16 @@
 -- A plan that is laid out right: what the test says, and the tables as parts of the plan.
-use Prim.Native.Nat.{ℕ, _+_, _-_, _*_, _/_, _≤_, _<_}
+use Prim.Native.Nat.{ℕ, _+_, _-_, _*_, _/_, _≤_}
 use mathlib.Core.Path.{_≡_, ap, ap₂, _∙_}
-use mathlib.Core.Bool.{Bool, true, false, not, _&&_, and-eq-true-iff}
+use mathlib.Core.Bool.{Bool, true, false, _&&_, and-eq-true-iff}
 use mathlib.Core.List.{List}
 use native.Mathlib.Omega.{arith}
 use lib.ListN.{length, getD, take, drop, length-take, length-drop}
-use lib.Dec.{leb, eqb}
 use borrow.Author.Tests.{leb-true, eqb-true, le-leb, eq-eqb, not-false}
 use Rattle.meaning.specs.declared.Header.{Header}
-use Rattle.meaning.specs.declared.Table.{Table}
 use Rattle.meaning.specs.Plan.{wordsOf, table, arrivalAt, layoutWrong, countsAllowed, classesStart, connectionsStart, arrivalsStart, planSize}
 use Rattle.plan.specs.Words.{word-of-part}
 use Rattle.plan.specs.Entries.{Local, table-same, arrival-local}
-use Rattle.plan.specs.Parts.{partOf, arrivalsIn}
+use Rattle.plan.specs.Parts.{arrivalsIn}
 
 -- Counts that are allowed and offsets that leave no gap, in a plan of this size.
 pub record Layout (size : ℕ) (h : Header) : Type 0 where

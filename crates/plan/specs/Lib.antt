@@ -9,6 +9,15 @@ pub mod Layout
 pub mod Reading
 pub mod Fitting
 pub mod Stretch
+pub mod Slots
+pub mod Good
+pub mod Refusals
 pub mod Sizes
+pub mod Back
 pub mod Written
 pub mod Writing
+pub mod RoundTrip
+pub mod Again
+pub mod Calls
+pub mod Walk
+pub mod Settled

@@ -1,12 +1,12 @@
 -- Laws on bytes put into a buffer: one after another, and none.
-use Prim.Native.Nat.{ℕ, zero, suc, _+_, _*_, _≤_, _<_}
-use mathlib.Core.Path.{_≡_, refl, sym, ap, ap₂, _∙_}
-use mathlib.Core.List.{List, [], _∷_, _++_, map, flatten, append-assoc, append-nil}
+use Prim.Native.Nat.{ℕ, _+_, _*_, _≤_, _<_}
+use mathlib.Core.Path.{_≡_, refl, sym, ap, _∙_}
+use mathlib.Core.List.{List, [], _∷_, _++_, flatten, append-assoc, append-nil}
 use native.Mathlib.Omega.{arith}
-use native.Mathlib.Nat.{add-zero, zero-add, add-assoc}
+use native.Mathlib.Nat.{add-zero}
 use native.Mathlib.Numerals.{add-one, towards-suc}
 use lib.ListN.{length, getD, take, drop, set, length-append, length-take, length-drop, take-append-drop}
-use lib.Seq.{take-suc, take-append-add, drop-append-add, take-at, drop-at, drop-drop, length-take-le, sets-eq}
+use lib.Seq.{take-suc, drop-append-add, take-at, drop-drop, length-take-le, sets-eq}
 use Rattle.meaning.specs.Plan.{bytesOfWord}
 use Rattle.plan.specs.Bytes.{bytesOfWords, pasted}
 

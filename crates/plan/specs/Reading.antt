@@ -1,16 +1,15 @@
 -- The five answers of reading, each from the tests that lead to it, and back.
-use Prim.Native.Nat.{ℕ, _-_, _/_}
-use mathlib.Core.Path.{_≡_, refl, sym, ap, _∙_}
-use mathlib.Core.Bool.{Bool, true, false, not, cond}
+use Prim.Native.Nat.{ℕ, _-_}
+use mathlib.Core.Path.{_≡_, ap}
+use mathlib.Core.Bool.{Bool, true, false, not}
 use mathlib.Core.List.{List}
 use lib.ListN.{length, take, drop}
-use lib.Dec.{eqb}
-use borrow.Author.Tests.{eq-eqb, ne-eqb, eqb-true, not-false, not-true, eqb-false}
+use borrow.Author.Tests.{eq-eqb, ne-eqb}
 use Rattle.meaning.specs.declared.Header.{Header}
 use Rattle.meaning.specs.declared.PlanRead.{PlanRead}
-use Rattle.meaning.specs.Plan.{wordsOf, sumWords, headerOf, contentsOf, sizeWrong, sumWrong, layoutWrong, slotsWrong, readingAnswer, arrivalAt, table}
+use Rattle.meaning.specs.Plan.{wordsOf, sumWords, headerOf, contentsOf, sizeWrong, sumWrong, layoutWrong, slotsWrong, readingAnswer}
 use Rattle.plan.specs.Parts.{arrivalsIn}
-use Rattle.plan.specs.Layout.{Layout, layout-facts, arrivals-of-rest}
+use Rattle.plan.specs.Layout.{layout-facts, arrivals-of-rest}
 
 pub sum-right : (ws : List ℕ) → sumWords ws ≡ 0 → sumWrong ws ≡ false
 unfolding sumWrong

@@ -1,11 +1,11 @@
 -- The lengths of a plan's tables, words and bytes.
-use Prim.Native.Nat.{ℕ, zero, suc, _+_, _*_}
-use mathlib.Core.Path.{_≡_, refl, ap, _∙_}
-use mathlib.Core.List.{List, [], _∷_, _++_, map, flatten}
+use Prim.Native.Nat.{_+_, _*_}
+use mathlib.Core.Path.{_≡_, refl, _∙_}
+use mathlib.Core.List.{List, [], _∷_, map, flatten}
 use native.Mathlib.Omega.{arith}
 use lib.ListN.{length, length-append}
 use Rattle.meaning.specs.Numbers.{Connection}
-use Rattle.meaning.specs.Plan.{Plan, Arrival, connectionWords, arrivalWords, tableWords, headerWords, sumWord, planWords, planBytes, sizeOf}
+use Rattle.meaning.specs.Plan.{Plan, Arrival, connectionWords, arrivalWords, tableWords, headerWords, planWords, planBytes, sizeOf}
 use Rattle.plan.specs.Bytes.{bytesOfWords}
 use Rattle.plan.specs.Pasting.{length-bytes}
 

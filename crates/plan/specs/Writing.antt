@@ -1,17 +1,17 @@
 -- Laws on writing: the size of the plan of lent tables, its words, the word that its sum asks for, and its bytes.
-use Prim.Native.Nat.{ℕ, zero, suc, _+_, _-_, _*_, _/_, _%_, _^_, _≤_, _<_}
-use mathlib.Core.Path.{_≡_, refl, sym, ap, ap₂, _∙_}
-use mathlib.Core.Bool.{Bool, true, false, not, _&&_, cond, and-eq-true-iff}
-use mathlib.Core.List.{List, [], _∷_, _++_, map, flatten, append-assoc}
+use Prim.Native.Nat.{ℕ, _+_, _-_, _*_, _/_, _%_, _^_, _≤_, _<_}
+use mathlib.Core.Path.{_≡_, refl, sym, ap, _∙_}
+use mathlib.Core.Bool.{Bool, true, false, not, _&&_, and-eq-true-iff}
+use mathlib.Core.List.{List, [], _∷_, _++_}
 use native.Mathlib.Omega.{arith}
 use native.Mathlib.Nat.{zero-add, mod-add-mod}
 use lib.ListN.{length, take, drop}
 use lib.Seq.{take-all}
-use lib.Dec.{leb, ltb, eqb}
+use lib.Dec.{ltb, eqb}
 use borrow.Author.Tests.{leb-true, eqb-true, not-false, lt-ltb, le-ltb, le-leb, eq-eqb}
 use Rattle.laws.specs.Sums.{sumOf}
 use Rattle.meaning.specs.declared.PlanWritten.{PlanWritten}
-use Rattle.meaning.specs.Plan.{Lent, writingAnswer, slotsWrong, lentPlan, lentWrong, countsAllowed, sizeOf, headerWords, tableWords, sumWord, sumWords, planWords, planBytes, table, connectionAt, arrivalAt, connectionWords, arrivalWords}
+use Rattle.meaning.specs.Plan.{Lent, writingAnswer, slotsWrong, lentPlan, lentWrong, countsAllowed, sizeOf, headerWords, tableWords, sumWord, sumWords, planWords, planBytes, connectionAt, arrivalAt}
 use Rattle.plan.specs.Entries.{length-table, connections-back, arrivals-back}
 use Rattle.plan.specs.Bytes.{bytesOfWords, pasted}
 use Rattle.plan.specs.Pasting.{paste-four-words}
@@ -35,6 +35,12 @@ lengths-facts f c a e =
   where
     both : (x y : Bool) → (x && y) ≡ true → (x ≡ true) × (y ≡ true)
     both x y h = and-eq-true-iff x y .0 h
+
+pub lengths-right : (f c a : ℕ) → Lengths f c a → lengthsWrong f c a ≡ false
+unfolding lengthsWrong countsAllowed
+lengths-right f c a l =
+    rw
+    (le-leb _ _ (l .factors-few), le-leb _ _ (l .connections-few), le-leb _ _ (l .arrivals-few), eq-eqb _ _ (l .connections-whole), eq-eqb _ _ (l .arrivals-whole))
 
 -- where all else is right, the last test decides
 pub lengths-last :

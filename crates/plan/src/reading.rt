@@ -1,7 +1,6 @@
 // Reading a plan: 13, 14, 15 and 16 in that order, or what its header says.
 ghost use mathlib.Core.Path.{_≡_};
 ghost use Prim.Native.Nat.{_≤_};
-ghost use lib.ListN.{length};
 ghost use Rattle.meaning.specs.Plan.{readingAnswer, sizeWrong, layoutWrong, slotsWrong, headerOf, wordsOf};
 ghost use Rattle.plan.specs.Parts.{arrivalsIn, tableOf};
 use super::words::number;

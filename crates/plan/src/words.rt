@@ -1,8 +1,7 @@
 // Little-endian 32-bit words in bytes: one read, all added, one written, many written.
 ghost use mathlib.Core.Path.{_≡_};
-ghost use mathlib.Core.List.{_++_};
 ghost use Prim.Native.Nat.{_+_, _*_, _/_, _%_, _^_, _≤_, _<_};
-ghost use lib.ListN.{length, getD, take, drop};
+ghost use lib.ListN.{length, getD};
 ghost use Rattle.meaning.specs.Plan.{wordsOf, sumWords, bytesOfWord};
 ghost use Rattle.laws.specs.Sums.{sumOf};
 ghost use Rattle.plan.specs.Bytes.{bytesOfWords, pasted};

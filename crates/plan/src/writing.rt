@@ -2,7 +2,7 @@
 ghost use mathlib.Core.Path.{_≡_};
 ghost use Prim.Native.Nat.{_≤_};
 ghost use lib.ListN.{length};
-ghost use Rattle.meaning.specs.Plan.{writingAnswer, lentWrong, slotsWrong, lentPlan, sizeOf, planBytes};
+ghost use Rattle.meaning.specs.Plan.{writingAnswer, slotsWrong, lentPlan, planBytes};
 ghost use Rattle.plan.specs.Parts.{arrivalsOfWords};
 ghost use Rattle.plan.specs.Written.{lent, Lengths, lentSize, lengthsWrong, bytesAfter};
 ghost use Rattle.plan.specs.Bytes.{pasted};

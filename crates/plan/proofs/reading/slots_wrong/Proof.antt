@@ -1,15 +1,15 @@
 -- `reading::slots_wrong` meets its contract. The loop's invariant: the arrivals that are left pass the test exactly when all do. Assumes nothing.
 use denote.Ref.{now}
-use Prim.Native.Nat.{_+_, _-_, _*_, _/_, _≤_, _<_}
+use Prim.Native.Nat.{_+_, _-_, _/_, _≤_, _<_}
 use mathlib.Core.Bool.{true, false}
 use mathlib.Core.Path.{_≡_, refl, sym, ap, _∙_}
 use native.Mathlib.Omega.{arith}
 use borrow.Author.Needs.{needs}
-use lib.ListN.{length, getD, drop}
-use Rattle.meaning.specs.Plan.{wordsOf, arrivalAt}
+use lib.ListN.{length, drop}
+use Rattle.meaning.specs.Plan.{wordsOf}
 use Rattle.plan.specs.Parts.{arrivalsIn}
 use Rattle.plan.specs.Entries.{length-table}
-use Rattle.plan.specs.Steps.{slotsGoodFrom, slots-next, slots-fall, slots-exceed, slots-end, slots-answer, slot-at, noArrival}
+use Rattle.plan.specs.Steps.{slotsGoodFrom, slots-next, slots-fall, slots-exceed, slots-end, slots-answer, slot-at}
 use Rattle.plan.proofs.reading.slots_wrong.Statement.{statement}
 use Rattle.plan.proofs.reading.slots_wrong.Tie as tie
 

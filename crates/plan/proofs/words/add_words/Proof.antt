@@ -1,7 +1,7 @@
 -- `words::add_words` meets its contract. The loop's invariant is that of `sum_of_bytes`. Assumes nothing.
-use lib.ListN.{length, getD}
-use Prim.Native.Nat.{_+_, _-_, _/_, _%_, _^_, _≤_, _<_}
-use mathlib.Core.Path.{_≡_, refl, sym, ap, _∙_}
+use lib.ListN.{length}
+use Prim.Native.Nat.{_+_, _-_, _%_, _^_, _≤_, _<_}
+use mathlib.Core.Path.{_≡_, refl}
 use native.Mathlib.Omega.{arith}
 use borrow.Author.Needs.{needs}
 use Rattle.laws.specs.Sums.{sumOf}

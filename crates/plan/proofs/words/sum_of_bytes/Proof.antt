@@ -2,7 +2,7 @@
 -- modulo 2^32. Assumes nothing.
 use lib.ListN.{length, getD}
 use Prim.Native.Nat.{_+_, _-_, _/_, _%_, _^_, _≤_, _<_}
-use mathlib.Core.Path.{_≡_, refl, sym, ap, _∙_}
+use mathlib.Core.Path.{_≡_, refl, ap, _∙_}
 use native.Mathlib.Omega.{arith}
 use native.Mathlib.Nat.{zero-add}
 use borrow.Author.Needs.{needs}

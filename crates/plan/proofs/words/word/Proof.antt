@@ -1,7 +1,6 @@
 -- `words::word` meets its contract: the four bytes, each below 256, are those of the word that the law `word-within` names. Assumes nothing.
 use denote.Ref.{now}
 use native.Mathlib.Omega.{arith}
-use mathlib.Core.Path.{_≡_, sym, ap, _∙_}
 use Rattle.meaning.specs.Plan.{wordAt}
 use Rattle.plan.specs.Words.{word-within}
 use borrow.Author.Needs.{needs}

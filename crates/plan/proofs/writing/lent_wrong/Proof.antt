@@ -1,6 +1,6 @@
 -- `writing::lent_wrong` meets its contract: each answer follows from the tests that led to it. Assumes nothing.
 use Rattle.plan.specs.Writing.{lengths-last}
-use borrow.Author.Tests.{le-leb, lt-leb, eq-eqb, ne-eqb}
+use borrow.Author.Tests.{le-leb, lt-leb, ne-eqb}
 use Rattle.meaning.specs.Plan.{countsAllowed}
 use Rattle.plan.specs.Written.{lengthsWrong}
 use Rattle.plan.proofs.writing.lent_wrong.Statement.{statement}

@@ -1,7 +1,6 @@
 -- `writing::write` meets its contract: each answer and its buffer follow from the tests that led to them, in document 01's order. Assumes nothing.
-use mathlib.Core.Path.{_≡_, sym, ap, _∙_}
+use mathlib.Core.Path.{sym, _∙_}
 use native.Mathlib.Omega.{arith}
-use lib.ListN.{length}
 use Rattle.meaning.specs.Plan.{lentWrong, lentPlan}
 use Rattle.plan.specs.Parts.{arrivalsOfWords}
 use Rattle.plan.specs.Written.{lent, lengthsWrong}
