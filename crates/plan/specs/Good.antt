@@ -1,19 +1,20 @@
 -- A plan that reads well: what is known of it, and its tables as parts of its bytes.
-use Prim.Native.Nat.{ℕ, _+_, _*_, _/_, _≤_}
+use Prim.Native.Nat.{ℕ, _+_, _*_, _/_, _≤_, _<_}
 use mathlib.Core.Path.{_≡_, refl, sym, ap, ap₂, _∙_}
 use mathlib.Core.Bool.{Bool, true, false, and-eq-true-iff, true≢false}
 use mathlib.Core.List.{List}
 use mathlib.Core.Logic.{⊎-elim}
 use native.Mathlib.Omega.{arith}
 use native.Mathlib.Nat.{mul-assoc}
-use lib.ListN.{length, take, drop, length-take, length-drop}
+use lib.ListN.{length, getD, take, drop, length-take, length-drop}
 use borrow.Author.Tests.{le-leb, not-false}
 use Rattle.laws.specs.Tests.{bool-cases}
+use Rattle.meaning.specs.Numbers.{Connection}
 use Rattle.meaning.specs.declared.Header.{Header}
 use Rattle.meaning.specs.declared.Table.{Table}
 use Rattle.meaning.specs.declared.PlanRead.{PlanRead}
 use Rattle.meaning.specs.Plan.{Arrival, wordsOf, headerOf, contentsOf, sizeWrong, sumWrong, layoutWrong, slotsWrong, neverFallingFrom, readingAnswer, table, factorAt, connectionAt, arrivalAt}
-use Rattle.plan.specs.Entries.{Local, factor-local, connection-local, arrival-local}
+use Rattle.plan.specs.Entries.{Local, factor-local, connection-local, arrival-local, getD-table}
 use Rattle.plan.specs.Parts.{partOf, arrivalsIn}
 use Rattle.plan.specs.Layout.{Layout, layout-facts, layout-right, part-table}
 use Rattle.plan.specs.Reading.{answer-13, answer-14, answer-15, answer-16, answer-0, slotsWrongIn}
@@ -127,3 +128,24 @@ module _ (bytes : List ℕ) (h : Header) (r : Readable bytes h) where
   -- the slots of the arrival table never fall, and none exceeds the largest
   pub never-falling : neverFallingFrom 0 (arrivalsIn (partOf bytes (h .arrivals) 12)) ≡ true
   never-falling = ap (neverFallingFrom 0) arrivals-hold ∙ rising (contentsOf (wordsOf bytes) h .arrivals) (r .slots)
+
+  -- an entry by its number, counted from 0, is that entry of the contents
+  entry-holds :
+      {A : Type 0} (entry : List ℕ → ℕ → A) (width : ℕ) (part : List ℕ) (n i : ℕ) (l : List A) (d : A) → i < n → table entry width (wordsOf part) 0 n ≡ l → entry (wordsOf part) (width * i) ≡ getD l i d
+  entry-holds entry width part n i l d below e =
+      let at : width * i ≡ 0 + width * i = omega arith in
+      ap (entry (wordsOf part)) at ∙
+      sym (getD-table entry width (wordsOf part) 0 n i d below) ∙
+      ap (λ m. getD m i d) e
+
+  pub factor-holds :
+      (i : ℕ) → i < h .classes .count → factorAt (wordsOf (partOf bytes (h .classes) 4)) i ≡ getD (contentsOf (wordsOf bytes) h .settings .factors) i 0
+  factor-holds i below =
+      let at : i ≡ 1 * i = omega arith in
+      ap (factorAt (wordsOf (partOf bytes (h .classes) 4))) at ∙
+      entry-holds factorAt 1 (partOf bytes (h .classes) 4) (h .classes .count) i (contentsOf (wordsOf bytes) h .settings .factors) 0 below classes-hold
+
+  pub connection-holds :
+      (i : ℕ) (d : Connection) → i < h .connections .count → connectionAt (wordsOf (partOf bytes (h .connections) 16)) (4 * i) ≡ getD (contentsOf (wordsOf bytes) h .connections) i d
+  connection-holds i d below =
+      entry-holds connectionAt 4 (partOf bytes (h .connections) 16) (h .connections .count) i (contentsOf (wordsOf bytes) h .connections) d below connections-hold
