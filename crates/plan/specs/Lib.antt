@@ -1,0 +1,23 @@
+-- What the contracts of this crate cite beside the definitions of `meaning`.
+pub mod Words
+pub mod Entries
+pub mod Bytes
+pub mod Parts
+pub mod Steps
+pub mod Pasting
+pub mod Layout
+pub mod Reading
+pub mod Fitting
+pub mod Stretch
+pub mod Slots
+pub mod Good
+pub mod Refusals
+pub mod Sizes
+pub mod Back
+pub mod Written
+pub mod Writing
+pub mod RoundTrip
+pub mod Again
+pub mod Calls
+pub mod Walk
+pub mod Settled

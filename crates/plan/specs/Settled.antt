@@ -1,0 +1,46 @@
+-- Answers that satisfy one promise are the same, for each public function.
+use Prim.Native.Nat.{ℕ}
+use mathlib.Core.Path.{_≡_, sym, ap, _∙_}
+use mathlib.Core.List.{List}
+use lib.ListN.{length}
+use Rattle.meaning.specs.declared.Table.{Table}
+use Rattle.meaning.specs.declared.PlanRead.{PlanRead}
+use Rattle.meaning.specs.declared.PlanWritten.{PlanWritten}
+use Rattle.meaning.specs.Plan.{Lent, wordsOf, factorAt, connectionAt, arrivalAt, readingAnswer, writingAnswer}
+use Rattle.plan.specs.declared.tables.ConnectionEntry.{ConnectionEntry}
+use Rattle.plan.specs.declared.tables.ArrivalEntry.{ArrivalEntry}
+use Rattle.plan.specs.Parts.{partOf, connectionOf, arrivalOf, stretchOf}
+use Rattle.plan.specs.Written.{bytesAfter}
+
+-- what both answers equal settles them
+one : {A : Type 0} {a b c : A} → a ≡ c → b ≡ c → a ≡ b
+one p q = p ∙ sym q
+
+pub read-settled : (bytes : List ℕ) (r s : PlanRead) → r ≡ readingAnswer bytes → s ≡ readingAnswer bytes → r ≡ s
+read-settled bytes r s = one
+
+-- `classes`, `connections` and `arrivals`
+pub part-settled : (bytes : List ℕ) (t : Table) (width : ℕ) (r s : List ℕ) → r ≡ partOf bytes t width → s ≡ partOf bytes t width → r ≡ s
+part-settled bytes t width r s = one
+
+pub factor-settled : (bytes : List ℕ) (i r s : ℕ) → r ≡ factorAt (wordsOf bytes) i → s ≡ factorAt (wordsOf bytes) i → r ≡ s
+factor-settled bytes i r s = one
+
+pub connection-settled :
+    (bytes : List ℕ) (i : ℕ) (r s : ConnectionEntry) → connectionOf r ≡ connectionAt (wordsOf bytes) i → connectionOf s ≡ connectionAt (wordsOf bytes) i → r ≡ s
+unfolding connectionOf
+connection-settled bytes i r s p q =
+    ap (λ c. record { class = c .class; longest = c .longest; burst = c .burst; period = c .period }) (one p q)
+
+pub arrival-settled :
+    (bytes : List ℕ) (i : ℕ) (r s : ArrivalEntry) → arrivalOf r ≡ arrivalAt (wordsOf bytes) i → arrivalOf s ≡ arrivalAt (wordsOf bytes) i → r ≡ s
+unfolding arrivalOf
+arrival-settled bytes i r s p q = ap (λ a. record { slot = a .slot; place = a .place; units = a .units }) (one p q)
+
+pub stretch-settled : (bytes : List ℕ) (from slot : ℕ) (r s : List ℕ) → r ≡ stretchOf bytes from slot → s ≡ stretchOf bytes from slot → r ≡ s
+stretch-settled bytes from slot r s = one
+
+pub write-settled :
+    (l : Lent) (buf : List ℕ) (r s : PlanWritten) (after left : List ℕ) → r ≡ writingAnswer l (length buf) → s ≡ writingAnswer l (length buf) →
+    after ≡ bytesAfter l buf → left ≡ bytesAfter l buf → (r ≡ s) × (after ≡ left)
+write-settled l buf r s after left p q u v = (one p q, one u v)
