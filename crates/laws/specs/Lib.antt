@@ -4,3 +4,4 @@ pub mod Lists
 pub mod Search
 pub mod Sums
 pub mod Series
+pub mod Deciding

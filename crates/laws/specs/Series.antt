@@ -222,3 +222,41 @@ length-flatten f (suc n) =
     (let e : 0 + 1 * n ≡ n = omega arith in
     rw (series-last f 1 0 n, e, flatten-append (series f 1 0 n) (f n ∷ []), flatten-one (f n), length-append (flatten (series f 1 0 n)) (f n),
       length-flatten f n))
+
+-- a test of what is left of a count: it fails at the value read, goes on after it, or is at its end
+module _ {A : Type 0} (test : A → Bool) (f : ℕ → A) (step start n i : ℕ) where
+  pub every-stop : i < n → test (f start) ≡ false → every test (series f step start (n - i)) ≡ false
+  unfolding every
+  every-stop h e = rw (series-next f step start n i h, e)
+
+  pub every-next : i < n → test (f start) ≡ true
+      → every test (series f step start (n - i)) ≡ every test (series f step (start + step) (n - (i + 1)))
+  unfolding every
+  every-next h e = rw (series-next f step start n i h, e)
+
+  pub every-end : n ≤ i → every test (series f step start (n - i)) ≡ true
+  unfolding every
+  every-end h = rw (series-done f step start n i h)
+
+pub every-index : {A : Type 0} (test : A → Bool) (f : ℕ → A) (step start n : ℕ) → every test (series f step start n) ≡ true
+    → (i : ℕ) → i < n → test (f (start + step * i)) ≡ true
+unfolding every series
+every-index test f step start zero e i h = absurd (omega arith)
+every-index test f step start (suc n) e zero h =
+    (let z : start + step * 0 ≡ start = omega arith in
+    ap (λ k. test (f k)) z ∙ and-eq-true-iff (test (f start)) (every test (series f step (start + step) n)) .0 e .0)
+every-index test f step start (suc n) e (suc i) h =
+    (let z : start + step * suc i ≡ start + step + step * i = omega arith in
+    ap (λ k. test (f k)) z ∙
+    every-index test f step (start + step) n (and-eq-true-iff (test (f start)) (every test (series f step (start + step) n)) .0 e .1) i (omega arith))
+
+pub every-all : {A : Type 0} (test : A → Bool) (f : ℕ → A) (step start n : ℕ)
+    → ((i : ℕ) → i < n → test (f (start + step * i)) ≡ true) → every test (series f step start n) ≡ true
+unfolding every series
+every-all test f step start zero h = refl
+every-all test f step start (suc n) h =
+    (let z : start + step * 0 ≡ start = omega arith in
+    and-eq-true-iff (test (f start)) (every test (series f step (start + step) n)) .1
+    (sym (ap (λ k. test (f k)) z) ∙ h 0 (omega arith),
+    every-all test f step (start + step) n (λ i l.
+      (let e : start + step + step * i ≡ start + step * suc i = omega arith in ap (λ k. test (f k)) e ∙ h (suc i) (omega arith)))))

@@ -3,3 +3,5 @@ pub mod Rotation
 pub mod PutContents
 pub mod ContentsPut
 pub mod Counts
+pub mod TableReads
+pub mod QueuesTested

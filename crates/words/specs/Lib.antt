@@ -2,3 +2,5 @@
 pub mod Places
 pub mod Contents
 pub mod Sound
+pub mod Tested
+pub mod Opening

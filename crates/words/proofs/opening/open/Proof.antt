@@ -1,0 +1,68 @@
+use borrow.Author.Needs.{needs}
+use Rattle.words.proofs.opening.open.Statement.{statement}
+use Rattle.words.proofs.opening.open.Tie as tie
+use Rattle.words.proofs.opening.open.Reads as reads
+use Rattle.words.proofs.opening.open.Lts as lts
+use Rattle.words.proofs.opening.clear.Reads as clear-reads
+use Rattle.words.proofs.opening.write_factors.Reads as write-factors-reads
+use Rattle.words.proofs.settings.settings_allowed.Reads as settings-allowed-reads
+
+-- src/opening.rt:38:9
+settings-allowed-requires : tie.Need-settings-allowed-requires
+settings-allowed-requires c κs = search needs
+
+-- src/opening.rt:39:9
+returns : tie.Need-returns
+returns c = ?
+
+-- src/opening.rt:42:9
+returns-2 : tie.Need-returns-2
+returns-2 c = ?
+
+-- src/opening.rt:44:5
+clear-requires : tie.Need-clear-requires
+clear-requires c κs = search needs
+
+-- src/opening.rt:45:5
+slice-write-ws : tie.Need-slice-write-ws
+slice-write-ws c = search needs
+
+-- src/opening.rt:46:5
+slice-write-ws-2 : tie.Need-slice-write-ws-2
+slice-write-ws-2 c = ?
+
+-- src/opening.rt:47:13
+cast-ws : tie.Need-cast-ws
+cast-ws c = ?
+
+-- src/opening.rt:47:5
+slice-write-ws-3 : tie.Need-slice-write-ws-3
+slice-write-ws-3 c = ?
+
+-- src/opening.rt:48:5
+write-factors-requires : tie.Need-write-factors-requires
+write-factors-requires c κs = ?
+
+-- src/opening.rt:35:1
+same-length : tie.Need-same-length
+same-length c = ?
+
+-- src/opening.rt:35:1
+returns-3 : tie.Need-returns-3
+returns-3 c = ?
+
+pub open-spec : {M : Type 1} → statement M
+open-spec =
+    tie.close
+    (tie.spec
+    settings-allowed-requires
+    returns
+    returns-2
+    clear-requires
+    slice-write-ws
+    slice-write-ws-2
+    cast-ws
+    slice-write-ws-3
+    write-factors-requires
+    same-length
+    returns-3)
