@@ -5,3 +5,5 @@ pub mod ContentsPut
 pub mod Counts
 pub mod TableReads
 pub mod QueuesTested
+pub mod TestedSound
+pub mod NewBox

@@ -1,3 +1,12 @@
+use Rattle.meaning.specs.Calls.{openingAnswer}
+use Rattle.meaning.specs.Numbers.{settingsAllowed}
+use Rattle.words.specs.Opening.{asked, cleared, afterOpening, opened}
+use lib.ListN.{length, getD, take, drop, set}
+use mathlib.Core.Bool.{Bool, true, false, _&&_, and-false, or-false}
+use borrow.Author.Tests.{leb-true, leb-false, le-leb, lt-leb, lt-ltb, le-ltb, eq-eqb, ne-eqb, not-true, not-false}
+use native.Mathlib.Omega.{arith}
+use mathlib.Core.Path.{_≡_, refl, sym, ap, _∙_}
+use Prim.Native.Nat.{ℕ, suc, _+_, _*_, _-_, _^_, _/_, _%_, _≤_, _<_}
 use borrow.Author.Needs.{needs}
 use Rattle.words.proofs.opening.open.Statement.{statement}
 use Rattle.words.proofs.opening.open.Tie as tie
@@ -13,11 +22,19 @@ settings-allowed-requires c κs = search needs
 
 -- src/opening.rt:39:9
 returns : tie.Need-returns
-returns c = ?
+unfolding opened openingAnswer afterOpening
+returns c = 
+    let a = c .before .before .before .before .args in
+    let e : settingsAllowed (asked (a .d) (a .m) (a .factors .now)) ≡ false = sym (c .before .settings-allowed .ensures) ∙ not-true _ (c .if1 .taken) in
+    simp e
 
 -- src/opening.rt:42:9
 returns-2 : tie.Need-returns-2
-returns-2 c = ?
+unfolding opened openingAnswer afterOpening
+returns-2 c = 
+    let a = c .before .before .before .before .before .args in
+    let e : settingsAllowed (asked (a .d) (a .m) (a .factors .now)) ≡ true = sym (c .before .before .settings-allowed .ensures) ∙ not-false _ (c .before .if1 .left) in
+    simp (e, lt-ltb _ _ (c .if2 .taken))
 
 -- src/opening.rt:44:5
 clear-requires : tie.Need-clear-requires
