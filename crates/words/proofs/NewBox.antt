@@ -25,3 +25,73 @@ cleared-next ws i h =
   where
     one-more : (i : ℕ) → i + 1 ≡ suc i
     one-more i = omega arith
+
+drop-zeros : (k n : ℕ) → k ≤ n → drop k (replicate {A = ℕ} n 0) ≡ replicate (n - k) 0
+drop-zeros zero n h = let e : n ≡ n - 0 = omega arith in ap (λ m. replicate m 0) e
+drop-zeros (suc k) zero h = absurd (omega arith)
+drop-zeros (suc k) (suc n) h = let e : n - k ≡ suc n - suc k = omega arith in drop-zeros k n (omega arith) ∙ ap (λ m. replicate m 0) e
+
+getD-empty : (n k : ℕ) → getD (replicate {A = List Packet} n []) k [] ≡ []
+getD-empty zero k = refl
+getD-empty (suc n) zero = refl
+getD-empty (suc n) (suc k) = getD-empty n k
+
+places-new : (opening : Settings) → byPlace (newBox opening) ≡ series (λ _. []) 1 0 64
+unfolding byPlace newBox emptyQueues
+places-new opening =
+    (let n = suc (largestFactor opening) in
+    let q : List (List Packet) = replicate n [] in
+    series-same (λ p. getD q (tagOf (turnsOf (newBox opening)) p) []) (λ _. []) 1 0 0 64
+    (λ i h. getD-empty n (tagOf (turnsOf (newBox opening)) (0 + 1 * i))))
+
+no-lengths : map (length {A = Packet}) (series (λ _. []) 1 0 64) ≡ replicate 64 0
+unfolding series
+no-lengths = refl
+
+no-words : flatten (map packetWords (flatten (series (λ _. []) 1 0 64))) ≡ []
+unfolding series flatten
+no-words = refl
+
+tail-zeros : (k : ℕ) → k ≤ 8
+    → replicate (8 - k) 0 ++ ((0 ∷ []) ++ (replicate 192 0 ++ ((0 ∷ 0 ∷ []) ++ ((0 ∷ 0 ∷ 0 ∷ 0 ∷ 0 ∷ []) ++ (replicate 64 0 ++ []))))) ≡ replicate {A = ℕ} (272 - k) 0
+tail-zeros k h =
+    (let e : 8 - k + 264 ≡ 272 - k = omega arith in
+    replicate-append-replicate {A = ℕ} (8 - k) 264 0 ∙ ap (λ n. replicate n 0) e)
+
+-- the words of a new box: its settings, then zeros
+image-new : (D M : ℕ) (fs : List ℕ) → length fs ≤ 8
+    → image (newBox (asked D M fs)) ≡ (D ∷ M ∷ length fs ∷ []) ++ (fs ++ replicate (272 - length fs) 0)
+unfolding image newBox padded linkWords flatten
+image-new D M fs h =
+    (let places = places-new (asked D M fs) in
+    let a = ap (map length) places ∙ no-lengths in
+    let b = ap (λ qs. flatten (map packetWords (flatten qs))) places ∙ no-words in
+    let rest : List ℕ → List ℕ → List ℕ = λ l w. (0 ∷ []) ++ (replicate 192 0 ++ ((0 ∷ 0 ∷ []) ++ ((0 ∷ 0 ∷ 0 ∷ 0 ∷ 0 ∷ []) ++ (l ++ w)))) in
+    ap (λ t. D ∷ M ∷ length fs ∷ t)
+    (append-assoc fs (replicate (8 - length fs) 0) (rest (map length (byPlace (newBox (asked D M fs)))) (flatten (map packetWords (flatten (byPlace (newBox (asked D M fs))))))) ∙
+    ap (λ t. fs ++ t)
+    (ap (λ l. replicate (8 - length fs) 0 ++ rest l (flatten (map packetWords (flatten (byPlace (newBox (asked D M fs))))))) a ∙
+    ap (λ w. replicate (8 - length fs) 0 ++ rest (replicate 64 0) w) b ∙ tail-zeros (length fs) h)))
+
+-- what opening writes is a new box
+pub opening-writes : (D M : ℕ) (fs ws cleared-words : List ℕ) → length fs ≤ 8 → cleared-words ≡ cleared 275 ws
+    → take 3 (set (set (set cleared-words 0 D) 1 M) 2 (length fs)) ++ fs ++ drop (3 + length fs) (set (set (set cleared-words 0 D) 1 M) 2 (length fs))
+      ≡ put (newBox (asked D M fs)) ws
+unfolding put cleared
+opening-writes D M fs ws l h e = 
+    (let k = length fs in
+    let R = drop 275 ws in
+    let z : List ℕ = replicate 272 0 in
+    let X : List ℕ = D ∷ M ∷ k ∷ (z ++ R) in
+    let x : set (set (set l 0 D) 1 M) 2 k ≡ X = ap (λ t. set (set (set t 0 D) 1 M) 2 k) e in
+    let d : drop (3 + k) X ≡ replicate (272 - k) 0 ++ R =
+    sym (drop-drop k 3 X) ∙ drop-append-le k z R (rw (length-replicate {A = ℕ} 272 0) (omega arith)) ∙ ap (λ t. t ++ R) (drop-zeros k 272 (omega arith)) in
+    let i = image-new D M fs h in
+    let n : length (image (newBox (asked D M fs))) ≡ 275 = ap length i ∙ size D M fs h in
+    ap (λ t. take 3 t ++ fs ++ drop (3 + k) t) x ∙ ap (λ t. (D ∷ M ∷ k ∷ []) ++ fs ++ t) d ∙
+    append-assoc (D ∷ M ∷ k ∷ []) fs (replicate (272 - k) 0 ++ R) ∙
+    ap (λ t. (D ∷ M ∷ k ∷ []) ++ t) (sym (append-assoc fs (replicate (272 - k) 0) R)) ∙
+    append-same (sym i) (ap (λ m. drop m ws) (sym n)))
+  where
+    size : (D M : ℕ) (fs : List ℕ) → length fs ≤ 8 → length ((D ∷ M ∷ length fs ∷ []) ++ (fs ++ replicate (272 - length fs) 0)) ≡ 275
+    size D M fs h = rw (length-append fs (replicate (272 - length fs) 0), length-replicate {A = ℕ} (272 - length fs) 0) (omega arith)

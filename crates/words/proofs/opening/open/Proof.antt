@@ -1,3 +1,8 @@
+use Rattle.meaning.specs.declared.Opened.{Opened}
+use Rattle.meaning.specs.Numbers.{classCount}
+use lib.ListN.{length-set}
+use Rattle.words.proofs.NewBox.{opening-writes}
+use Rattle.meaning.proofs.Facts.{settings-facts}
 use Rattle.meaning.specs.Calls.{openingAnswer}
 use Rattle.meaning.specs.Numbers.{settingsAllowed}
 use Rattle.words.specs.Opening.{asked, cleared, afterOpening, opened}
@@ -46,27 +51,42 @@ slice-write-ws c = search needs
 
 -- src/opening.rt:46:5
 slice-write-ws-2 : tie.Need-slice-write-ws-2
-slice-write-ws-2 c = ?
+slice-write-ws-2 c = simp length-set (omega (arith, c .before .before .clear .kept .0, c .before .before .before .before .if2 .left))
 
 -- src/opening.rt:47:13
 cast-ws : tie.Need-cast-ws
-cast-ws c = ?
+unfolding classCount
+cast-ws c = 
+    let a = c .before .before .before .before .before .before .before .before .before .args in
+    let e : settingsAllowed (asked (a .d) (a .m) (a .factors .now)) ≡ true = sym (c .before .before .before .before .before .before .settings-allowed .ensures) ∙ not-false _ (c .before .before .before .before .before .if1 .left) in
+    record { fits = omega (arith, settings-facts (asked (a .d) (a .m) (a .factors .now)) e .classes-most) }
 
 -- src/opening.rt:47:5
 slice-write-ws-3 : tie.Need-slice-write-ws-3
-slice-write-ws-3 c = ?
+slice-write-ws-3 c = simp length-set (omega (arith, c .before .before .clear .kept .0, c .before .before .before .before .if2 .left))
 
 -- src/opening.rt:48:5
 write-factors-requires : tie.Need-write-factors-requires
-write-factors-requires c κs = ?
+unfolding classCount
+write-factors-requires c κs = 
+    let a = c .before .before .before .before .before .before .before .before .before .before .args in
+    let e : settingsAllowed (asked (a .d) (a .m) (a .factors .now)) ≡ true = sym (c .before .before .before .before .before .before .before .settings-allowed .ensures) ∙ not-false _ (c .before .before .before .before .before .before .if1 .left) in
+    simp length-set (omega (arith, c .before .before .before .clear .kept .0, c .before .before .before .before .before .if2 .left, settings-facts (asked (a .d) (a .m) (a .factors .now)) e .classes-most))
 
 -- src/opening.rt:35:1
 same-length : tie.Need-same-length
-same-length c = ?
+same-length c = simp length-set at (c .before .before .write-factors .kept .0) ∙ c .before .before .before .before .before .before .clear .kept .0
 
 -- src/opening.rt:35:1
 returns-3 : tie.Need-returns-3
-returns-3 c = ?
+unfolding opened openingAnswer afterOpening classCount
+returns-3 c = 
+    let a = c .before .before .before .before .before .before .before .before .before .before .before .before .before .args in
+    let s = asked (a .d) (a .m) (a .factors .now) in
+    let e : settingsAllowed s ≡ true = sym (c .before .before .before .before .before .before .before .before .before .before .settings-allowed .ensures) ∙ not-false _ (c .before .before .before .before .before .before .before .before .before .if1 .left) in
+    let w = c .before .before .write-factors .ensures ∙
+    opening-writes (a .d) (a .m) (a .factors .now) (a .ws .now) (c .before .before .before .before .before .before .clear .last .0) (settings-facts s e .classes-most) (c .before .before .before .before .before .before .clear .ensures) in
+    simp (e, le-ltb _ _ (c .before .before .before .before .before .before .before .before .if2 .left)) (ap (λ l. (Opened.Done, l)) w)
 
 pub open-spec : {M : Type 1} → statement M
 open-spec =
