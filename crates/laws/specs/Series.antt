@@ -6,8 +6,9 @@ use mathlib.Core.List.{List, [], _∷_, _++_, map, flatten, append-assoc, append
 use native.Mathlib.Omega.{arith}
 use native.Mathlib.Numerals.{add-one}
 use native.Mathlib.Nat.{mod-eq-of-lt, add-mod-right}
-use lib.ListN.{length, getD, take, drop, replicate, length-append}
-use lib.Seq.{drop-cons, drop-drop, drop-at, getD-drop, ext-getD}
+use lib.ListN.{length, getD, take, drop, set, replicate, length-append, length-set}
+use native.Mathlib.Decide.{ℕ-discrete}
+use lib.Seq.{drop-cons, drop-drop, drop-at, getD-drop, getD-set-same, getD-set-other, ext-getD}
 use lib.Dec.{eqb}
 use borrow.Author.Tests.{eqb-true}
 use Rattle.laws.specs.Tests.{every}
@@ -260,3 +261,19 @@ every-all test f step start (suc n) h =
     (sym (ap (λ k. test (f k)) z) ∙ h 0 (omega arith),
     every-all test f step (start + step) n (λ i l.
       (let e : start + step + step * i ≡ start + step * suc i = omega arith in ap (λ k. test (f k)) e ∙ h (suc i) (omega arith)))))
+
+-- one value of the list is another
+pub series-set : {A : Type 0} (f g : ℕ → A) (n k : ℕ) (d : A) → k < n → ((i : ℕ) → i < n → (i ≡ k → ⊥) → g i ≡ f i)
+    → series g 1 0 n ≡ set (series f 1 0 n) k (g k)
+series-set f g n k d h same =
+    (let a = series f 1 0 n in
+    let lf = length-series f 1 0 n in
+    let lg = length-series g 1 0 n in
+    ext-getD d (series g 1 0 n) (set a k (g k)) (lg ∙ sym (length-set a k (g k) ∙ lf)) (λ i l.
+      (let e : 0 + 1 * i ≡ i = omega arith in
+      let m : i < n = rw lg at l in
+      getD-series g 1 0 n i d m ∙ ap g e ∙
+      elim (ℕ-discrete i k) [
+        yes q ↦ ap g q ∙ sym (ap (λ j. getD (set a k (g k)) j d) q ∙ getD-set-same a k (g k) d (rw lf h))
+      | no q ↦ same i m q ∙ sym (getD-set-other a k i (g k) d q ∙ getD-series f 1 0 n i d m ∙ ap f e)
+      ])))

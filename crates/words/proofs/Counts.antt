@@ -16,7 +16,7 @@ use Rattle.words.specs.Places.{boxWords, word, startOf, lengthsBelow, pl
 use Rattle.words.specs.Contents.{contents, settingsAt, standings, turnsAt, queueAt, queuesAt, standingWords, packetWords, linkWords, padded, turnsOf, byPlace, image, put}
 use Rattle.words.specs.Sound.{zeros, unusedClear, linkClear, untaggedEmpty, wellFormed, soundWords, Fitting}
 use Rattle.words.proofs.PutContents.{class-count, row-count, untagged-zero}
-use Rattle.words.proofs.TableReads.{interval-at}
+use Rattle.words.proofs.TableReads.{interval-at, classes-at}
 use Rattle.words.proofs.ContentsPut.{Puttable, sound-puttable, length-queue, standing-size, packet-size, length-padded, link-size, length-places, contents-put, put-unused, put-link, put-untagged}
 
 pub lengths-sum : (ws : List ℕ) (p : ℕ) → lengthsBelow ws p ≡ sumBelow (λ i. word ws (211 + i)) p
@@ -103,6 +103,7 @@ sound-fitting ws e =
     record {
       enough = leb-true boxWords (length ws) (d .0);
       interval = interval-at ws (s .interval-least);
+      classes-least = classes-at ws (s .classes-least);
       classes = omega (arith, s .classes-most, class-count ws);
       factors-clear = z .0;
       rows = omega (arith, f .connections-most, row-count ws);

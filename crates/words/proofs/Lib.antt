@@ -7,3 +7,7 @@ pub mod TableReads
 pub mod QueuesTested
 pub mod TestedSound
 pub mod NewBox
+pub mod Moving
+pub mod Same
+pub mod QueueLaws
+pub mod Shift

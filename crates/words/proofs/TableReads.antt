@@ -105,7 +105,7 @@ pub interval-at : (ws : List ℕ) → 1 ≤ settingsAt ws .interval → 1 ≤ wo
 unfolding settingsAt
 interval-at ws h = h
 
-classes-at : (ws : List ℕ) → 1 ≤ classCount (settingsAt ws) → 1 ≤ word ws 2
+pub classes-at : (ws : List ℕ) → 1 ≤ classCount (settingsAt ws) → 1 ≤ word ws 2
 unfolding classCount
 classes-at ws h = rw (class-count ws) at h
 

@@ -4,3 +4,4 @@ pub mod Contents
 pub mod Sound
 pub mod Tested
 pub mod Opening
+pub mod Changes

@@ -44,6 +44,7 @@ soundWords ws = wellFormed ws && sound (contents ws)
 pub record Fitting (ws : List ℕ) : Type 0 where
   pub enough : boxWords ≤ length ws
   pub interval : 1 ≤ word ws 0
+  pub classes-least : 1 ≤ word ws 2
   pub classes : word ws 2 ≤ 8
   pub factors-clear : zeros ws (3 + word ws 2) (8 - word ws 2) ≡ true
   pub rows : word ws 11 ≤ 32

@@ -5,3 +5,5 @@ pub mod rows;
 pub mod packets;
 pub mod soundness;
 pub mod opening;
+mod moves;
+pub mod queues;
