@@ -11,3 +11,4 @@ pub mod Moving
 pub mod Same
 pub mod QueueLaws
 pub mod Shift
+pub mod JoinTake

@@ -80,3 +80,30 @@ module _ (ws after : List ℕ) where
   become-put box b =
       put-from ws after box (b .fitting) (b .stands-for)
       (drop-same (275 + 4 * lengthsBelow after 64) (b .same-length) (b .beyond))
+
+-- words whose tables of settings and connections stay, with a clear link and queues in order, are fitting
+pub fitting-kept : (ws after : List ℕ) → Fitting ws → length after ≡ length ws
+    → ((i : ℕ) → i < 204 → word after i ≡ word ws i)
+    → linkClear after ≡ true → untaggedEmpty after ≡ true → lengthsBelow after 64 ≤ 1024 → Fitting after
+fitting-kept ws after k l e c u t =
+    (let two = e 2 (omega arith) in
+    let n = e 11 (omega arith) in
+    let set = settings-same ws after (k .classes) (λ i h. e i (omega arith)) in
+    record {
+      enough = omega (arith, k .enough);
+      interval = omega (arith, k .interval, e 0 (omega arith));
+      classes-least = omega (arith, k .classes-least);
+      classes = omega (arith, k .classes);
+      factors-clear = rw two (zeros-same ws after (3 + word ws 2) (8 - word ws 2) (λ i a b. e i (omega (arith, k .classes))) ∙ k .factors-clear);
+      rows = omega (arith, k .rows);
+      rows-clear = rw n (zeros-same ws after (12 + 6 * word ws 11) (192 - 6 * word ws 11) (λ i a b. e i (omega (arith, k .rows))) ∙ k .rows-clear);
+      link-clear = c;
+      largest = rw set (k .largest);
+      untagged = u;
+      total = t;
+    })
+
+pub link-clear-same : (ws after : List ℕ) → ((i : ℕ) → 206 ≤ i → i < 211 → word after i ≡ word ws i) → linkClear after ≡ linkClear ws
+unfolding linkClear
+link-clear-same ws after e =
+    rw (e 206 (omega arith) (omega arith), zeros-same ws after 207 4 (λ i a b. e i (omega arith) (omega arith)))

@@ -11,13 +11,13 @@ use Rattle.laws.specs.Series.{series, series-same, series-set, series-last}
 use Rattle.laws.specs.Tests.{every}
 use Rattle.meaning.specs.Numbers.{largestFactor}
 use Rattle.meaning.specs.Box.{Box, Packet}
-use Rattle.words.specs.Places.{word, lengthsBelow, startOf, placeOf}
+use Rattle.words.specs.Places.{word, lengthsBelow, startOf, placeOf, tagOf}
 use Rattle.words.specs.Contents.{contents, settingsAt, standings, packetAt, linkOf, turnsAt, queueAt, queuesAt}
 use Rattle.words.specs.Sound.{zeros, linkClear, emptyFrom, untaggedEmpty, Fitting}
 use Rattle.words.specs.Changes.{Become, withQueues}
 use Rattle.words.proofs.Rotation.{place-below, tag-of-place}
 use Rattle.words.proofs.TableReads.{lengths-most}
-use Rattle.words.proofs.Same.{settings-same, standings-same, packet-same, zeros-same, turns-same, queue-tagged-at}
+use Rattle.words.proofs.Same.{settings-same, standings-same, packet-same, zeros-same, turns-same, queue-tagged-at, fitting-kept, link-clear-same}
 
 -- the queue at `place` loses `less` packets and gains `more`, and the packets of the later places move
 pub record Shifted (ws after : List ℕ) (place less more : ℕ) : Type 0 where
@@ -27,15 +27,15 @@ pub record Shifted (ws after : List ℕ) (place less more : ℕ) : Type 0 where
   pub before : (i : ℕ) → 275 ≤ i → i < startOf ws place → word after i ≡ word ws i
   pub later : (i j : ℕ) → startOf ws (suc place) ≤ i → i < 275 + 4 * lengthsBelow ws 64 → j + 4 * less ≡ i + 4 * more → word after j ≡ word ws i
 
-lengths-rise : (ws : List ℕ) (p n : ℕ) → p ≤ n → lengthsBelow ws p ≤ lengthsBelow ws n
+pub lengths-rise : (ws : List ℕ) (p n : ℕ) → p ≤ n → lengthsBelow ws p ≤ lengthsBelow ws n
 lengths-rise ws p n h =
     elim (ℕ-discrete p n) [ yes q ↦ (let e = ap (lengthsBelow ws) q in omega arith) | no q ↦ omega (arith, lengths-most ws p n (omega arith)) ]
 
-lengths-next : (ws : List ℕ) (p : ℕ) → lengthsBelow ws (suc p) ≡ lengthsBelow ws p + word ws (211 + p)
+pub lengths-next : (ws : List ℕ) (p : ℕ) → lengthsBelow ws (suc p) ≡ lengthsBelow ws p + word ws (211 + p)
 unfolding lengthsBelow
 lengths-next ws p = refl
 
-start-is : (ws : List ℕ) (p : ℕ) → startOf ws p ≡ 275 + 4 * lengthsBelow ws p
+pub start-is : (ws : List ℕ) (p : ℕ) → startOf ws p ≡ 275 + 4 * lengthsBelow ws p
 unfolding startOf
 start-is ws p = refl
 
@@ -98,3 +98,57 @@ module _ (ws after : List ℕ) (place less more : ℕ) (in-range : place < 64) (
 
   pub start-same : startOf after place ≡ startOf ws place
   start-same = (let a = start-is after place in let b = start-is ws place in let c = below-same place (omega arith) in omega arith)
+
+-- two tags have two places
+places-differ : (turns k tag : ℕ) → k < 64 → tag < 64 → (k ≡ tag → ⊥) → placeOf turns k ≡ placeOf turns tag → ⊥
+places-differ turns k tag h l q e =
+    q (sym (tag-of-place turns k h) ∙ ap (tagOf turns) e ∙ tag-of-place turns tag l)
+
+module _ (ws after : List ℕ) (tag less more : ℕ) (k : Fitting ws) (tagged : tag ≤ largestFactor (settingsAt ws))
+    (s : Shifted ws after (placeOf (turnsAt ws) tag) less more) where
+  kept-words : (i : ℕ) → i < 211 → word after i ≡ word ws i
+  kept-words i h = s .tables i (omega arith) (λ q. omega arith)
+
+  shift-settings : settingsAt after ≡ settingsAt ws
+  shift-settings = settings-same ws after (k .classes) (λ i h. kept-words i (omega arith))
+
+  shift-turns : turnsAt after ≡ turnsAt ws
+  shift-turns = turns-same ws after (kept-words 0 (omega arith)) (kept-words 204 (omega arith))
+
+  shift-queues : queuesAt after ≡ set (queuesAt ws) tag (queueAt after (placeOf (turnsAt ws) tag))
+  unfolding queuesAt
+  shift-queues =
+      (let t = turnsAt ws in
+      let r = largestFactor (settingsAt ws) in
+      let f : ℕ → List Packet = λ j. queueAt ws (placeOf t j) in
+      let g : ℕ → List Packet = λ j. queueAt after (placeOf t j) in
+      rw (shift-settings, shift-turns)
+      (series-set f g (suc r) tag [] (omega arith) (λ i h q.
+        other-queue ws after (placeOf t tag) less more (place-below t tag) s (placeOf t i) (place-below t i)
+        (places-differ t i tag (omega (arith, k .largest)) (omega (arith, k .largest)) q))))
+
+  shift-untagged : untaggedEmpty after ≡ true
+  unfolding untaggedEmpty emptyFrom
+  shift-untagged =
+      (let t = turnsAt ws in
+      let r = largestFactor (settingsAt ws) in
+      rw (shift-settings, shift-turns)
+      (ap (every (λ w. eqb w 0)) (series-same (λ j. word after (211 + placeOf t j)) (λ j. word ws (211 + placeOf t j)) 1 (suc r) (suc r) (63 - r) (λ i h.
+        (let j = suc r + 1 * i in
+        s .tables (211 + placeOf t j) (omega (arith, place-below t j))
+        (λ q. places-differ t j tag (omega (arith, k .largest)) (omega (arith, k .largest)) (λ e. omega arith) (omega arith))))) ∙
+      k .untagged))
+
+  pub shifted-become : lengthsBelow after 64 ≤ 1024 → ((i : ℕ) → 275 + 4 * lengthsBelow after 64 ≤ i → word after i ≡ word ws i)
+      → Become ws after (withQueues (contents ws) (set (contents ws .queues) tag (queueAt after (placeOf (turnsAt ws) tag))))
+  unfolding contents withQueues
+  shifted-become h b =
+      record {
+        fitting = fitting-kept ws after k (s .same-length) (λ i l. kept-words i (omega arith))
+          (link-clear-same ws after (λ i a l. kept-words i l) ∙ k .link-clear) shift-untagged h;
+        stands-for =
+          rw (shift-settings, standings-same ws after (k .rows) (λ i a l. kept-words i (omega arith)), kept-words 204 (omega arith),
+            kept-words 205 (omega arith), kept-words 206 (omega arith), packet-same ws after 207 207 (λ j l. kept-words (207 + j) (omega arith)), shift-queues);
+        same-length = s .same-length;
+        beyond = b;
+      }
