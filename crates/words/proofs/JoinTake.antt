@@ -23,6 +23,10 @@ queue-count : (ws : List ℕ) → length (contents ws .queues) ≡ suc (largestF
 unfolding contents queuesAt
 queue-count ws = length-series (λ k. queueAt ws (placeOf (turnsAt ws) k)) 1 0 (suc (largestFactor (settingsAt ws)))
 
+tail-series : {A : Type 0} (f : ℕ → A) (start n : ℕ) → drop 1 (series f 4 start (suc n)) ≡ series f 4 (start + 4) n
+unfolding series
+tail-series f start n = refl
+
 -- a packet joins
 module _ (ws up placed : List ℕ) (tag : ℕ) (p : Packet) (k : Fitting ws) (tagged : tag ≤ largestFactor (settingsAt ws)) (room : lengthsBelow ws 64 < 1024)
     (at end v : ℕ) (at-is : at ≡ 275 + 4 * lengthsBelow ws (placeOf (turnsAt ws) tag + 1)) (end-is : end ≡ 275 + 4 * lengthsBelow ws 64)
@@ -99,3 +103,64 @@ module _ (ws up placed : List ℕ) (tag : ℕ) (p : Packet) (k : Fitting ws) (ta
     where
       one-more : (n : ℕ) → n + 1 ≡ suc n
       one-more n = omega arith
+
+-- the head of a queue goes
+module _ (ws down : List ℕ) (tag : ℕ) (k : Fitting ws) (tagged : tag ≤ largestFactor (settingsAt ws))
+    (some-wait : 1 ≤ word ws (211 + placeOf (turnsAt ws) tag))
+    (at end v : ℕ) (at-is : at ≡ 275 + 4 * lengthsBelow ws (placeOf (turnsAt ws) tag)) (end-is : end ≡ 275 + 4 * lengthsBelow ws 64)
+    (u : MovedDown ws down at end) (v-is : v + 1 ≡ word down (211 + placeOf (turnsAt ws) tag)) where
+  beheaded : List ℕ
+  beheaded = set down (211 + placeOf (turnsAt ws) tag) v
+
+  unstored : (i : ℕ) → 275 ≤ i → word beheaded i ≡ word down i
+  unfolding beheaded
+  unstored i h = word-other down (211 + placeOf (turnsAt ws) tag) v i (λ e. omega (arith, place-below (turnsAt ws) tag))
+
+  behead-shift : Shifted ws beheaded (placeOf (turnsAt ws) tag) 1 0
+  unfolding beheaded
+  behead-shift =
+      (let P = placeOf (turnsAt ws) tag in
+      let small = place-below (turnsAt ws) tag in
+      let s0 = start-is ws P in
+      let s1 = start-is ws (suc P) ∙ ap (λ n. 275 + 4 * n) (lengths-next ws P) in
+      record {
+        same-length = length-set down (211 + P) v ∙ u .same-length;
+        tables = λ i h q. word-other down (211 + P) v i q ∙ u .below i (omega arith);
+        count = (let c = word-same down (211 + P) v (211 + P) (omega (arith, k .enough, u .same-length)) refl in let d = u .below (211 + P) (omega arith) in omega arith);
+        before = λ i h q. word-other down (211 + P) v i (λ e. omega arith) ∙ u .below i (omega arith);
+        later = λ i j a b e.
+          word-other down (211 + P) v j (λ q. omega arith) ∙ u .moved j (omega arith) (omega arith) ∙
+          (let q : j + 4 ≡ i = omega arith in ap (λ n. word ws n) q);
+      })
+
+  behead-queue : queueAt beheaded (placeOf (turnsAt ws) tag) ≡ drop 1 (queueAt ws (placeOf (turnsAt ws) tag))
+  unfolding queueAt
+  behead-queue =
+      (let P = placeOf (turnsAt ws) tag in
+      let small = place-below (turnsAt ws) tag in
+      let s = behead-shift in
+      let n = word ws (211 + P) in
+      let c : word beheaded (211 + P) ≡ n - 1 = omega (arith, s .count) in
+      let m : n ≡ suc (n - 1) = omega arith in
+      let s0 = start-is ws P in
+      let b = start-same ws beheaded P 1 0 small s in
+      let l = lengths-most ws P 64 small in
+      rw (c, b)
+      (series-same (packetAt beheaded) (packetAt ws) 4 (startOf ws P) (startOf ws P + 4) (n - 1) (λ i h.
+        packet-same ws beheaded (startOf ws P + 4 * i) (startOf ws P + 4 + 4 * i) (λ j g.
+          unstored (startOf ws P + 4 * i + j) (omega arith) ∙ u .moved (startOf ws P + 4 * i + j) (omega arith) (omega arith) ∙
+          (let q : startOf ws P + 4 * i + j + 4 ≡ startOf ws P + 4 + 4 * i + j = omega arith in ap (λ x. word ws x) q))) ∙
+      sym (ap (λ x. drop 1 (series (packetAt ws) 4 (startOf ws P) x)) m ∙ tail-series (packetAt ws) (startOf ws P) (n - 1))))
+
+  pub behead-become : Become ws (set down (211 + placeOf (turnsAt ws) tag) v)
+      (withQueues (contents ws) (set (contents ws .queues) tag (drop 1 (getD (contents ws .queues) tag []))))
+  unfolding beheaded
+  behead-become =
+      (let P = placeOf (turnsAt ws) tag in
+      let small = place-below (turnsAt ws) tag in
+      let s = behead-shift in
+      let t = total-moved ws beheaded P 1 0 small s in
+      let l = lengths-most ws P 64 small in
+      let q : drop 1 (getD (contents ws .queues) tag []) ≡ queueAt beheaded P = ap (drop 1) (queue-tagged-at ws tag tagged) ∙ sym behead-queue in
+      rw q (shifted-become ws beheaded tag 1 0 k tagged s (omega (arith, k .total)) (λ i h.
+        unstored i (omega arith) ∙ u .above i (omega arith) (omega arith))))

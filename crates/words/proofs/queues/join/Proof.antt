@@ -1,3 +1,13 @@
+use lib.ListN.{length, getD, take, drop, set}
+use lib.ListN.{length-set}
+use Rattle.words.proofs.Shift.{lengths-next, lengths-rise}
+use Rattle.words.proofs.TableReads.{lengths-most}
+use Rattle.words.proofs.JoinTake.{joined-become, behead-become}
+use Rattle.words.specs.Places.{word, placeOf, lengthsBelow}
+use Rattle.words.specs.Contents.{contents, turnsAt}
+use native.Mathlib.Omega.{arith}
+use mathlib.Core.Path.{_≡_, refl, sym, ap, _∙_}
+use Prim.Native.Nat.{ℕ, suc, _+_, _*_, _-_, _^_, _/_, _%_, _≤_, _<_}
 use borrow.Author.Needs.{needs}
 use Rattle.words.proofs.queues.join.Statement.{statement}
 use Rattle.words.proofs.queues.join.Tie as tie
@@ -8,9 +18,13 @@ use Rattle.words.proofs.moves.write_packet.Reads as write-packet-reads
 use Rattle.words.proofs.numbers.lengths_below.Reads as lengths-below-reads
 use Rattle.words.proofs.queues.place_of.Reads as place-of-reads
 
+one-more : (n : ℕ) → n + 1 ≡ suc n
+one-more n = omega arith
+
 -- src/queues.rt:55:9
 place-of-requires : tie.Need-place-of-requires
-place-of-requires c κs = ?
+unfolding contents
+place-of-requires c κs = (c .before .before .pre .0, omega (arith, c .before .before .pre .0 .largest, c .before .before .pre .1))
 
 -- src/queues.rt:56:25
 lengths-below-requires : tie.Need-lengths-below-requires
@@ -42,11 +56,31 @@ add-at c = search needs
 
 -- src/queues.rt:58:5
 move-up-requires : tie.Need-move-up-requires
-move-up-requires c κs = ?
+move-up-requires c κs = 
+    let s = c .before .before .before .before .before .before .before .before in
+    let ws = s .args .ws .now in
+    let k = s .pre .0 in
+    let P = c .before .before .before .before .before .place-of .result in
+    let small = c .before .before .before .before .before .place-of .ensures .1 in
+    let a = c .before .lengths-below2 .ensures .0 in
+    let e = c .before .before .before .lengths-below .ensures .0 in
+    let l = lengths-most ws P 64 small in
+    let n = ap (lengthsBelow ws) (one-more P) ∙ lengths-next ws P in
+    (omega arith, omega (arith, k .enough, s .pre .2))
 
 -- src/queues.rt:59:5
 write-packet-requires : tie.Need-write-packet-requires
-write-packet-requires c κs = ?
+write-packet-requires c κs = 
+    let s = c .before .before .before .before .before .before .before .before .before .before .before .before in
+    let ws = s .args .ws .now in
+    let k = s .pre .0 in
+    let P = c .before .before .before .before .before .before .before .before .before .place-of .result in
+    let small = c .before .before .before .before .before .before .before .before .before .place-of .ensures .1 in
+    let a = c .before .before .before .before .before .lengths-below2 .ensures .0 in
+    let e = c .before .before .before .before .before .before .before .lengths-below .ensures .0 in
+    let l = lengths-most ws P 64 small in
+    let n = ap (lengthsBelow ws) (one-more P) ∙ lengths-next ws P in
+    omega (arith, k .enough, s .pre .2, c .before .before .before .move-up .kept .0)
 
 -- src/queues.rt:60:26
 add-ws : tie.Need-add-ws
@@ -62,7 +96,18 @@ slice-read-ws c = search needs
 
 -- src/queues.rt:60:23
 add-ws-2 : tie.Need-add-ws-2
-add-ws-2 c = ?
+add-ws-2 c = 
+    let s = c .before .before .before .before .before .before .before .before .before .before .before .before .before .before .before .before in
+    let ws = s .args .ws .now in
+    let k = s .pre .0 in
+    let P = c .before .before .before .before .before .before .before .before .before .before .before .before .before .place-of .result in
+    let small = c .before .before .before .before .before .before .before .before .before .before .before .before .before .place-of .ensures .1 in
+    let a = c .before .before .before .before .before .before .before .before .before .lengths-below2 .ensures .0 in
+    let e = c .before .before .before .before .before .before .before .before .before .before .before .lengths-below .ensures .0 in
+    let l = lengths-most ws P 64 small in
+    let n = ap (lengthsBelow ws) (one-more P) ∙ lengths-next ws P in
+    let b = c .before .before .before .write-packet .ensures .below (211 + P) (omega arith) ∙ c .before .before .before .before .before .before .before .move-up .ensures .below (211 + P) (omega arith) in
+    record { fits = omega (arith, s .pre .2) }
 
 -- src/queues.rt:60:8
 add-ws-3 : tie.Need-add-ws-3
@@ -78,11 +123,26 @@ slice-write-ws c = search needs
 
 -- src/queues.rt:51:1
 same-length : tie.Need-same-length
-same-length c = ?
+same-length c = simp length-set (c .before .before .before .write-packet .kept .0 ∙ c .before .before .before .before .before .before .before .move-up .kept .0)
 
 -- src/queues.rt:51:1
 returns : tie.Need-returns
-returns c = ?
+unfolding contents
+returns c = 
+    let s = c .before .before .before .before .before .before .before .before .before .before .before .before .before .before .before .before in
+    let ws = s .args .ws .now in
+    let k = s .pre .0 in
+    let P = c .before .before .before .before .before .before .before .before .before .before .before .before .before .place-of .result in
+    let small = c .before .before .before .before .before .before .before .before .before .before .before .before .before .place-of .ensures .1 in
+    let a = c .before .before .before .before .before .before .before .before .before .lengths-below2 .ensures .0 in
+    let e = c .before .before .before .before .before .before .before .before .before .before .before .lengths-below .ensures .0 in
+    let l = lengths-most ws P 64 small in
+    let g = s .args in
+    let q = c .before .before .before .before .before .before .before .before .before .before .before .before .before .place-of .ensures .0 in
+    let placed = c .before .before .before .write-packet .last .0 in
+    rw q (joined-become ws (c .before .before .before .before .before .before .before .move-up .last .0) placed (g .tag) (record { serial = g .serial; connection = g .connection; units = g .units; arrival = g .arrival })
+    k (s .pre .1) (s .pre .2) (275 + 4 * c .before .before .before .before .before .before .before .before .before .lengths-below2 .result) (275 + 4 * c .before .before .before .before .before .before .before .before .before .before .before .lengths-below .result) (word placed (211 + placeOf (turnsAt ws) (g .tag)) + 1)
+    (ap (λ m. 275 + 4 * m) a ∙ ap (λ m. 275 + 4 * lengthsBelow ws (m + 1)) q) (ap (λ m. 275 + 4 * m) e) (c .before .before .before .before .before .before .before .move-up .ensures) (c .before .before .before .write-packet .ensures) refl)
 
 pub join-spec : {M : Type 1} → statement M
 join-spec =
