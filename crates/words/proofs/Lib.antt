@@ -12,3 +12,6 @@ pub mod Same
 pub mod QueueLaws
 pub mod Shift
 pub mod JoinTake
+pub mod SmallChanges
+pub mod LinkWritten
+pub mod Loading

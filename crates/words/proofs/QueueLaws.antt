@@ -6,7 +6,9 @@ use mathlib.Core.Option.{Option, none, some}
 use native.Mathlib.Omega.{arith}
 use lib.ListN.{length, getD, set, drop}
 use Rattle.laws.specs.Series.{series, series-next, series-done}
-use Rattle.meaning.specs.Queues.{joinTail, lowestHead, withoutLowestHead}
+use lib.Dec.{ltb}
+use borrow.Author.Tests.{lt-ltb}
+use Rattle.meaning.specs.Queues.{joinTail, lowestHead, withoutLowestHead, tagZeroWaits}
 use Rattle.words.specs.Changes.{lowestTag}
 
 pub length-none : {A : Type 0} (l : List A) → length l ≡ 0 → l ≡ []
@@ -62,3 +64,17 @@ module _ {A : Type 0} where
   take-head [] d h = absurd (omega arith)
   take-head ([] ∷ qs) d h = take-head qs d (omega arith)
   take-head ((p ∷ q) ∷ qs) d h = (refl, omega arith)
+
+  -- tag 0 after the lowest head is taken
+  pub zero-waits-taken : (qs : List (List A)) → tagZeroWaits (withoutLowestHead qs) ≡ ltb 1 (length (getD qs 0 []))
+  unfolding tagZeroWaits withoutLowestHead
+  zero-waits-taken [] = refl
+  zero-waits-taken ([] ∷ qs) = refl
+  zero-waits-taken ((p ∷ []) ∷ qs) = refl
+  zero-waits-taken ((p ∷ (x ∷ q)) ∷ qs) = sym (lt-ltb 1 (suc (suc (length q))) (omega arith))
+
+  pub zero-waits : (qs : List (List A)) → tagZeroWaits qs ≡ ltb 0 (length (getD qs 0 []))
+  unfolding tagZeroWaits
+  zero-waits [] = refl
+  zero-waits ([] ∷ qs) = refl
+  zero-waits ((p ∷ q) ∷ qs) = sym (lt-ltb 0 (suc (length q)) (omega arith))

@@ -107,3 +107,32 @@ pub link-clear-same : (ws after : List ℕ) → ((i : ℕ) → 206 ≤ i → i <
 unfolding linkClear
 link-clear-same ws after e =
     rw (e 206 (omega arith) (omega arith), zeros-same ws after 207 4 (λ i a b. e i (omega arith) (omega arith)))
+
+-- words of the queues that stay give the same queues
+module _ (ws after : List ℕ) (e : (i : ℕ) → 211 ≤ i → word after i ≡ word ws i) where
+  pub lengths-same : (p : ℕ) → lengthsBelow after p ≡ lengthsBelow ws p
+  unfolding lengthsBelow
+  lengths-same zero = refl
+  lengths-same (suc p) = rw (lengths-same p, e (211 + p) (omega arith))
+
+  pub queue-same : (p : ℕ) → queueAt after p ≡ queueAt ws p
+  unfolding queueAt startOf
+  queue-same p =
+      rw (e (211 + p) (omega arith), lengths-same p)
+      (series-same (packetAt after) (packetAt ws) 4 (275 + 4 * lengthsBelow ws p) (275 + 4 * lengthsBelow ws p) (word ws (211 + p)) (λ i h.
+        packet-same ws after (275 + 4 * lengthsBelow ws p + 4 * i) (275 + 4 * lengthsBelow ws p + 4 * i) (λ j g. e (275 + 4 * lengthsBelow ws p + 4 * i + j) (omega arith))))
+
+  pub queues-same : settingsAt after ≡ settingsAt ws → turnsAt after ≡ turnsAt ws → queuesAt after ≡ queuesAt ws
+  unfolding queuesAt
+  queues-same s t =
+      rw (s, t)
+      (series-same (λ k. queueAt after (placeOf (turnsAt ws) k)) (λ k. queueAt ws (placeOf (turnsAt ws) k)) 1 0 0 (suc (largestFactor (settingsAt ws)))
+      (λ i h. queue-same (placeOf (turnsAt ws) (0 + 1 * i))))
+
+  pub untagged-same : settingsAt after ≡ settingsAt ws → turnsAt after ≡ turnsAt ws → untaggedEmpty after ≡ untaggedEmpty ws
+  unfolding untaggedEmpty emptyFrom
+  untagged-same s t =
+      (let r = largestFactor (settingsAt ws) in
+      rw (s, t)
+      (ap (every (λ w. eqb w 0)) (series-same (λ k. word after (211 + placeOf (turnsAt ws) k)) (λ k. word ws (211 + placeOf (turnsAt ws) k)) 1 (suc r) (suc r) (63 - r)
+      (λ i h. e (211 + placeOf (turnsAt ws) (suc r + 1 * i)) (omega arith)))))

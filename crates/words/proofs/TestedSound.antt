@@ -271,3 +271,7 @@ tested-sound ws =
     bool-same (tested ws) (soundWords ws)
     (λ e. (let p = tested-parts ws e in and-eq-true-iff (wellFormed ws) (sound (contents ws)) .1 (parts-formed ws p, parts-sound ws p)))
     (λ e. parts-tested ws (sound-parts ws e))
+
+-- the queues of sound words
+pub sound-queues : (ws : List ℕ) → soundWords ws ≡ true → QueuesFacts ws
+sound-queues ws e = sound-parts ws e .queues

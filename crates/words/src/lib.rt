@@ -5,5 +5,6 @@ pub mod rows;
 pub mod packets;
 pub mod soundness;
 pub mod opening;
+pub mod parts;
 mod moves;
 pub mod queues;

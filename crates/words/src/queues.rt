@@ -1,19 +1,20 @@
 // The queues in words: which has a packet, joining a tail, taking a head, and the turn.
 use crate::moves::{move_down, move_up, write_packet};
+use crate::parts::write_link;
 use crate::numbers::{lengths_below, wide};
 use crate::soundness::{largest_factor, turns};
 ghost use mathlib.Core.Path.{_≡_};
-ghost use mathlib.Core.Bool.{true, false};
+ghost use mathlib.Core.Bool.{true};
 ghost use Prim.Native.Nat.{suc, _+_, _*_, _≤_, _<_};
 ghost use lib.ListN.{length, set, getD, drop};
-ghost use mathlib.Core.List.{_++_, _∷_, []};
+ghost use mathlib.Core.List.{[]};
 ghost use Rattle.meaning.specs.Numbers.{largestFactor};
-ghost use Rattle.meaning.specs.Queues.{joinTail, tagZeroWaits, turnAt};
+ghost use Rattle.meaning.specs.Queues.{joinTail, tagZeroWaits};
 ghost use Rattle.meaning.specs.Step.{queuesTaken};
 ghost use Rattle.words.specs.Places.{word, lengthsBelow, placeOf};
 ghost use Rattle.words.specs.Contents.{contents, turnsAt};
-ghost use Rattle.words.specs.Sound.{Fitting};
-ghost use Rattle.words.specs.Changes.{Become, loadedBox, lowestTag, raised, withQueues};
+ghost use Rattle.words.specs.Sound.{Fitting, soundWords};
+ghost use Rattle.words.specs.Changes.{Become, loadedBox, lowestTag, withQueues};
 
 // The place of the queue with this tag.
 fn place_of(ws: &[u32], tag: usize) -> usize
@@ -70,4 +71,45 @@ fn behead(ws: &mut [u32], tag: usize)
     let at = 275 + 4 * lengths_below(ws, place);
     move_down(ws, at, end);
     ws[211 + place] = ws[211 + place] - 1;
+}
+
+// The step would turn the queues while tag 0 still has a packet, once the head of this step is taken.
+pub fn tag_zero_waits(ws: &[u32]) -> bool
+    requires { ⌜ Fitting (now ws) ⌝ }
+    ensures { λ r. ⌜ r ≡ tagZeroWaits (queuesTaken (contents (now (ws .entry)) .link) (contents (now (ws .entry)) .queues)) ⌝ }
+{
+    let count = waiting_at(ws, 0);
+    if ws[206] == 0 {
+        return 1 < count;
+    }
+    0 < count
+}
+
+// The head of the queue with this tag goes onto the link.
+fn load_from(ws: &mut [u32], tag: usize)
+    requires { ⌜ (soundWords (now ws) ≡ true) × (tag ≡ lowestTag (contents (now ws) .queues)) × (tag ≤ largestFactor (contents (now ws) .settings)) × (word (now ws) 206 ≡ 0) ⌝ }
+    ensures { λ _. ⌜ Become (now (ws .entry)) (now (ws .exit)) (loadedBox (contents (now (ws .entry)))) ⌝ }
+{
+    let at = 275 + 4 * lengths_below(ws, place_of(ws, tag));
+    let serial = ws[at];
+    let connection = ws[at + 1];
+    let units = ws[at + 2];
+    let arrival = ws[at + 3];
+    behead(ws, tag);
+    write_link(ws, units, serial, connection, units, arrival);
+}
+
+// If the link is free, the head of the lowest-tagged queue that has a packet goes onto it.
+pub fn load_link(ws: &mut [u32])
+    requires { ⌜ soundWords (now ws) ≡ true ⌝ }
+    ensures { λ _. ⌜ Become (now (ws .entry)) (now (ws .exit)) (loadedBox (contents (now (ws .entry)))) ⌝ }
+{
+    if ws[206] != 0 {
+        return;
+    }
+    let tag = lowest_tag(ws);
+    if largest_factor(ws) < tag {
+        return;
+    }
+    load_from(ws, tag);
 }

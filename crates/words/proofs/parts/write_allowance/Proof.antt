@@ -1,0 +1,66 @@
+use borrow.Author.Needs.{needs}
+use Rattle.words.proofs.parts.write_allowance.Statement.{statement}
+use Rattle.words.proofs.parts.write_allowance.Tie as tie
+use Rattle.words.proofs.parts.write_allowance.Reads as reads
+use Rattle.words.proofs.parts.write_allowance.Lts as lts
+use Rattle.words.proofs.numbers.wide.Reads as wide-reads
+
+-- src/parts.rt:128:23
+wide-requires : tie.Need-wide-requires
+wide-requires c κs = search needs
+
+-- src/parts.rt:128:19
+add-at : tie.Need-add-at
+add-at c = search needs
+
+-- src/parts.rt:128:14
+mul-at : tie.Need-mul-at
+mul-at c = search needs
+
+-- src/parts.rt:129:8
+add-ws : tie.Need-add-ws
+add-ws c = search needs
+
+-- src/parts.rt:129:5
+mul-ws : tie.Need-mul-ws
+mul-ws c = search needs
+
+-- src/parts.rt:129:5
+slice-write-ws : tie.Need-slice-write-ws
+slice-write-ws c = search needs
+
+-- src/parts.rt:130:8
+add-ws-2 : tie.Need-add-ws-2
+add-ws-2 c = search needs
+
+-- src/parts.rt:130:5
+mul-ws-2 : tie.Need-mul-ws-2
+mul-ws-2 c = search needs
+
+-- src/parts.rt:130:5
+slice-write-ws-2 : tie.Need-slice-write-ws-2
+slice-write-ws-2 c = ?
+
+-- src/parts.rt:124:1
+same-length : tie.Need-same-length
+same-length c = search needs
+
+-- src/parts.rt:124:1
+returns : tie.Need-returns
+returns c = ?
+
+pub write-allowance-spec : {M : Type 1} → statement M
+write-allowance-spec =
+    tie.close
+    (tie.spec
+    wide-requires
+    add-at
+    mul-at
+    add-ws
+    mul-ws
+    slice-write-ws
+    add-ws-2
+    mul-ws-2
+    slice-write-ws-2
+    same-length
+    returns)
