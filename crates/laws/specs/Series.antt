@@ -277,3 +277,13 @@ series-set f g n k d h same =
         yes q ↦ ap g q ∙ sym (ap (λ j. getD (set a k (g k)) j d) q ∙ getD-set-same a k (g k) d (rw lf h))
       | no q ↦ same i m q ∙ sym (getD-set-other a k i (g k) d q ∙ getD-series f 1 0 n i d m ∙ ap f e)
       ])))
+
+-- a list by any step is one by single steps
+pub series-unit : {A : Type 0} (f : ℕ → A) (step start n : ℕ) (d : A) → series f step start n ≡ series (λ i. f (start + step * i)) 1 0 n
+series-unit {A} f step start n d =
+    (let g : ℕ → A = λ i. f (start + step * i) in
+    let a = length-series f step start n in
+    let b = length-series g 1 0 n in
+    ext-getD d (series f step start n) (series g 1 0 n) (a ∙ sym b) (λ i h.
+      (let e : 0 + 1 * i ≡ i = omega arith in
+      getD-series f step start n i d (rw a at h) ∙ sym (getD-series g 1 0 n i d (rw a at h) ∙ ap g e))))

@@ -15,3 +15,4 @@ pub mod JoinTake
 pub mod SmallChanges
 pub mod LinkWritten
 pub mod Loading
+pub mod RowChanges

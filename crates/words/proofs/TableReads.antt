@@ -12,7 +12,8 @@ use Rattle.laws.specs.Series.{series, length-series, getD-series, map-series, e
 use Rattle.laws.specs.Tests.{within, every, within-facts}
 use Rattle.words.specs.Opening.{asked}
 use Rattle.meaning.specs.Numbers.{Connection, settingsAllowed, intervalAllowed, cycleAllowed, classesAllowed, largestBoundAllowed, largestBound, bound, risingAbove, classCount, factor, largestFactor, connectionAllowed, classAllowed, longestAllowed, burstAllowed, periodAllowed}
-use Rattle.meaning.specs.Envelope.{Allowance, allowanceKept}
+use Rattle.meaning.specs.Envelope.{Allowance, full, allowanceKept}
+use Rattle.meaning.specs.Calls.{allowance}
 use Rattle.meaning.specs.Queues.{rank}
 use Rattle.meaning.specs.Box.{Box, Packet, Standing, connections, connection, noConnection, stands, packetKept, rankIn}
 use Rattle.meaning.proofs.Facts.{settings-facts}
@@ -141,3 +142,12 @@ lengths-most ws p (suc n) h = elim (decLe n p) [ yes k ↦ last (omega arith) | 
   where
     last : p ≡ n → lengthsBelow ws p + word ws (211 + p) ≤ lengthsBelow ws n + word ws (211 + n)
     last e = rw e (omega arith)
+
+-- the allowance of a number, read from its row
+pub allowance-at : (ws : List ℕ) (n : ℕ) → 1 ≤ n → n ≤ word ws 11 → allowance (contents ws) n ≡ standingAt ws (6 * (1 + n)) .allowance
+unfolding allowance contents standings
+allowance-at ws n h k =
+    (let f : ℕ → Allowance = λ i. standingAt ws i .allowance in
+    let e : 12 + 6 * (n - 1) ≡ 6 * (1 + n) = omega arith in
+    ap (λ l. getD l (n - 1) (full noConnection)) (map-series (λ s. s .allowance) (standingAt ws) 6 12 (word ws 11)) ∙
+    getD-series f 6 12 (word ws 11) (n - 1) (full noConnection) (omega arith) ∙ ap f e)

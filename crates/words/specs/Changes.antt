@@ -8,7 +8,7 @@ use Rattle.meaning.specs.Queues.{turnAt, turned}
 use Rattle.meaning.specs.Box.{Box, Packet, Standing, Link}
 use Rattle.meaning.specs.Step.{linkTaken, queuesTaken}
 use Rattle.words.specs.Places.{word, lengthsBelow, startOf}
-use Rattle.words.specs.Contents.{contents, packetAt}
+use Rattle.words.specs.Contents.{contents, packetAt, standingAt}
 use Rattle.words.specs.Sound.{Fitting}
 
 -- Words that become the words of this box: what lies past its last packet stays. `become-put` makes of it that they are `put box ws`.
@@ -96,3 +96,10 @@ pub record PacketPut (ws after : List ℕ) (at : ℕ) (p : Packet) : Type 0 wher
   pub packet : packetAt after at ≡ p
   pub below : (i : ℕ) → i < at → word after i ≡ word ws i
   pub above : (i : ℕ) → at + 4 ≤ i → word after i ≡ word ws i
+
+-- A row stands at word `at`, and the other words are as they were.
+pub record RowPut (ws after : List ℕ) (at : ℕ) (s : Standing) : Type 0 where
+  pub same-length : length after ≡ length ws
+  pub row : standingAt after at ≡ s
+  pub below : (i : ℕ) → i < at → word after i ≡ word ws i
+  pub above : (i : ℕ) → at + 6 ≤ i → word after i ≡ word ws i

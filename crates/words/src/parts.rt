@@ -12,7 +12,7 @@ ghost use Rattle.meaning.specs.Calls.{allowance, withStanding};
 ghost use Rattle.words.specs.Places.{word};
 ghost use Rattle.words.specs.Contents.{contents, linkOf};
 ghost use Rattle.words.specs.Sound.{Fitting};
-ghost use Rattle.words.specs.Changes.{Become, raised, withAccepted, withLink};
+ghost use Rattle.words.specs.Changes.{Become, RowPut, raised, withAccepted, withLink};
 
 // A connection's row.
 pub struct Row {
@@ -128,4 +128,27 @@ pub fn write_allowance(ws: &mut [u32], n: u32, next: u32, credit: u32)
     let at = 6 * (1 + wide(n));
     ws[at + 4] = next;
     ws[at + 5] = credit;
+}
+
+// A row is written at word `at`.
+fn write_row(ws: &mut [u32], at: usize, row: Row)
+    requires { ⌜ at + 6 ≤ length (now ws) ⌝ }
+    ensures { λ _. ⌜ RowPut (now (ws .entry)) (now (ws .exit)) at (record { asked = record { class = row .class; longest = row .longest; burst = row .burst; period = row .period }; allowance = record { next = row .next; credit = row .credit } }) ⌝ }
+{
+    ws[at] = row.class;
+    ws[at + 1] = row.longest;
+    ws[at + 2] = row.burst;
+    ws[at + 3] = row.period;
+    ws[at + 4] = row.next;
+    ws[at + 5] = row.credit;
+}
+
+// A connection more stands.
+pub fn append_row(ws: &mut [u32], row: Row)
+    requires { ⌜ Fitting (now ws) × (word (now ws) 11 < 32) ⌝ }
+    ensures { λ _. ⌜ Become (now (ws .entry)) (now (ws .exit)) (withStanding (contents (now (ws .entry))) (contents (now (ws .entry)) .standing ++ (record { asked = record { class = row .class; longest = row .longest; burst = row .burst; period = row .period }; allowance = record { next = row .next; credit = row .credit } } ∷ []))) ⌝ }
+{
+    let count = ws[11];
+    write_row(ws, 6 * (2 + wide(count)), row);
+    ws[11] = count + 1;
 }

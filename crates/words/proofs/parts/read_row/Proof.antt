@@ -1,3 +1,9 @@
+use Rattle.words.proofs.TableReads.{connection-at, allowance-at}
+use Rattle.words.specs.Places.{word}
+use Rattle.words.specs.Contents.{contents, standingAt}
+use native.Mathlib.Omega.{arith}
+use mathlib.Core.Path.{_≡_, refl, sym, ap, _∙_}
+use Prim.Native.Nat.{ℕ, suc, _+_, _*_, _-_, _^_, _/_, _%_, _≤_, _<_}
 use borrow.Author.Needs.{needs}
 use Rattle.words.proofs.parts.read_row.Statement.{statement}
 use Rattle.words.proofs.parts.read_row.Tie as tie
@@ -87,7 +93,14 @@ shared-slice-read-t26 c = search needs
 
 -- src/parts.rt:69:1
 returns : tie.Need-returns
-returns c = ?
+unfolding standingAt
+returns c = 
+    let s = c .before .before .before .before .before .before .before .before in
+    let ws = s .args .ws .now in
+    let n = s .args .n in
+    let w = c .before .before .before .before .before .before .wide .ensures .0 in
+    (connection-at ws n (s .pre .1) (s .pre .2) ∙ ap (λ m. standingAt ws (6 * (1 + m)) .asked) (sym w),
+    allowance-at ws n (s .pre .1) (s .pre .2) ∙ ap (λ m. standingAt ws (6 * (1 + m)) .allowance) (sym w))
 
 pub read-row-spec : {M : Type 1} → statement M
 read-row-spec =

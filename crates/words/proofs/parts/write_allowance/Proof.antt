@@ -1,3 +1,11 @@
+use Rattle.words.proofs.RowChanges.{allowance-become}
+use lib.ListN.{length-set}
+use lib.ListN.{length, getD, take, drop, set}
+use Rattle.words.specs.Places.{word}
+use Rattle.words.specs.Contents.{contents, standingAt}
+use native.Mathlib.Omega.{arith}
+use mathlib.Core.Path.{_≡_, refl, sym, ap, _∙_}
+use Prim.Native.Nat.{ℕ, suc, _+_, _*_, _-_, _^_, _/_, _%_, _≤_, _<_}
 use borrow.Author.Needs.{needs}
 use Rattle.words.proofs.parts.write_allowance.Statement.{statement}
 use Rattle.words.proofs.parts.write_allowance.Tie as tie
@@ -39,7 +47,7 @@ mul-ws-2 c = search needs
 
 -- src/parts.rt:130:5
 slice-write-ws-2 : tie.Need-slice-write-ws-2
-slice-write-ws-2 c = ?
+slice-write-ws-2 c = simp length-set (omega (arith, c .before .before .pre .0 .enough, c .before .before .pre .0 .rows, c .wide .ensures .0, c .before .before .pre .2))
 
 -- src/parts.rt:124:1
 same-length : tie.Need-same-length
@@ -47,7 +55,9 @@ same-length c = search needs
 
 -- src/parts.rt:124:1
 returns : tie.Need-returns
-returns c = ?
+returns c = 
+    let s = c .before .before in
+    rw (c .wide .ensures .0) (allowance-become (s .args .ws .now) (s .args .n) (s .args .next) (s .args .credit) (s .pre .0) (s .pre .1) (s .pre .2))
 
 pub write-allowance-spec : {M : Type 1} → statement M
 write-allowance-spec =
