@@ -7,9 +7,11 @@ use native.Mathlib.Omega.{arith}
 use lib.ListN.{length, getD, take, drop, set, replicate, length-append, length-replicate, replicate-append-replicate, getD-replicate}
 use lib.Seq.{drop-cons, set-at, drop-drop, drop-append-add, drop-append-le}
 use Rattle.laws.specs.Series.{series, series-same, map-series, append-same, length-flatten, sumBelow}
-use Rattle.meaning.specs.Numbers.{Settings, largestFactor, settingsAllowed}
+use Rattle.meaning.specs.Numbers.{Settings, largestFactor, risingAbove, settingsAllowed}
 use Rattle.meaning.specs.Queues.{emptyQueues}
-use Rattle.meaning.specs.Box.{Box, Packet, free, sound}
+use Rattle.laws.specs.Tests.{every}
+use Rattle.meaning.specs.Box.{Box, Packet, free, connections, waiting, packets, onLink, packetKept, inTheirQueues, serialsRise, linkKept, allowancesKept, sound}
+use Rattle.meaning.proofs.Facts.{SoundFacts, sound-test}
 use Rattle.meaning.specs.Calls.{newBox}
 use Rattle.words.specs.Places.{tagOf}
 use Rattle.words.specs.Contents.{padded, standingWords, packetWords, linkWords, turnsOf, byPlace, image, put}
@@ -95,3 +97,40 @@ opening-writes D M fs ws l h e =
   where
     size : (D M : ℕ) (fs : List ℕ) → length fs ≤ 8 → length ((D ∷ M ∷ length fs ∷ []) ++ (fs ++ replicate (272 - length fs) 0)) ≡ 275
     size D M fs h = rw (length-append fs (replicate (272 - length fs) 0), length-replicate {A = ℕ} (272 - length fs) 0) (omega arith)
+
+no-packets : (n : ℕ) → flatten (replicate {A = List Packet} n []) ≡ []
+unfolding flatten
+no-packets zero = refl
+no-packets (suc n) = no-packets n
+
+in-no-queue : (box : Box) (tag n : ℕ) → inTheirQueues box tag (replicate n []) ≡ true
+unfolding inTheirQueues every
+in-no-queue box tag zero = refl
+in-no-queue box tag (suc n) = in-no-queue box (suc tag) n
+
+none-rise : (n : ℕ) → every (λ q. risingAbove 0 (map (λ p. p .serial) q)) (replicate {A = List Packet} n []) ≡ true
+unfolding every risingAbove
+none-rise zero = refl
+none-rise (suc n) = none-rise n
+
+-- "A new box is sound"
+pub new-box-sound : (opening : Settings) → settingsAllowed opening ≡ true → sound (newBox opening) ≡ true
+unfolding newBox emptyQueues connections waiting packets onLink serialsRise linkKept allowancesKept every
+new-box-sound opening e =
+    (let n = suc (largestFactor opening) in
+    let box = newBox opening in
+    let z : length (waiting box) ≡ 0 = ap length (no-packets n) in
+    sound-test box (record {
+      settings-allowed = e;
+      connections-most = omega arith;
+      connections-allowed = refl;
+      waiting-most = omega arith;
+      counter-most = omega arith;
+      queue-count = length-replicate {A = List Packet} n [];
+      in-their-queues = in-no-queue box 0 n;
+      serials-rise = none-rise n;
+      packets-kept = ap (λ l. every (packetKept box) (l ++ [])) (no-packets n);
+      link-kept = refl;
+      count-most = omega arith;
+      allowances-kept = refl;
+    }))

@@ -101,3 +101,83 @@ allowance-become ws n next credit k h l =
     rw (← (one-row ws after n next credit h l c (e at (λ q. omega arith) (λ q. omega arith)) (e (at + 1) (λ q. omega arith) (λ q. omega arith))
       (e (at + 2) (λ q. omega arith) (λ q. omega arith)) (e (at + 3) (λ q. omega arith) (λ q. omega arith)) w4 w5
       (λ i x. e i (λ q. omega arith) (λ q. omega arith)) (λ i x. e i (λ q. omega arith) (λ q. omega arith)))) b)
+
+-- six stores write a row
+pub row-stored : (ws : List ℕ) (at a b c d e f : ℕ) → at + 6 ≤ length ws
+    → RowPut ws (set (set (set (set (set (set ws at a) (at + 1) b) (at + 2) c) (at + 3) d) (at + 4) e) (at + 5) f) at
+      (record { asked = record { class = a; longest = b; burst = c; period = d }; allowance = record { next = e; credit = f } })
+unfolding standingAt
+row-stored ws at a b c d e f h =
+    (let w1 = set ws at a in
+    let w2 = set w1 (at + 1) b in
+    let w3 = set w2 (at + 2) c in
+    let w4 = set w3 (at + 3) d in
+    let w5 = set w4 (at + 4) e in
+    let w6 = set w5 (at + 5) f in
+    let l1 : length w1 ≡ length ws = length-set ws at a in
+    let l2 : length w2 ≡ length ws = length-set w1 (at + 1) b ∙ l1 in
+    let l3 : length w3 ≡ length ws = length-set w2 (at + 2) c ∙ l2 in
+    let l4 : length w4 ≡ length ws = length-set w3 (at + 3) d ∙ l3 in
+    let l5 : length w5 ≡ length ws = length-set w4 (at + 4) e ∙ l4 in
+    let l6 : length w6 ≡ length ws = length-set w5 (at + 5) f ∙ l5 in
+    let o6 : (i : ℕ) → (i ≡ at + 5 → ⊥) → word w6 i ≡ word w5 i = λ i q. word-other w5 (at + 5) f i q in
+    let o5 : (i : ℕ) → (i ≡ at + 4 → ⊥) → word w5 i ≡ word w4 i = λ i q. word-other w4 (at + 4) e i q in
+    let o4 : (i : ℕ) → (i ≡ at + 3 → ⊥) → word w4 i ≡ word w3 i = λ i q. word-other w3 (at + 3) d i q in
+    let o3 : (i : ℕ) → (i ≡ at + 2 → ⊥) → word w3 i ≡ word w2 i = λ i q. word-other w2 (at + 2) c i q in
+    let o2 : (i : ℕ) → (i ≡ at + 1 → ⊥) → word w2 i ≡ word w1 i = λ i q. word-other w1 (at + 1) b i q in
+    let o1 : (i : ℕ) → (i ≡ at → ⊥) → word w1 i ≡ word ws i = λ i q. word-other ws at a i q in
+    let p5 : word w6 (at + 5) ≡ f = word-same w5 (at + 5) f (at + 5) (omega arith) refl in
+    let p4 : word w6 (at + 4) ≡ e = o6 (at + 4) (λ q. omega arith) ∙ word-same w4 (at + 4) e (at + 4) (omega arith) refl in
+    let p3 : word w6 (at + 3) ≡ d = o6 (at + 3) (λ q. omega arith) ∙ o5 (at + 3) (λ q. omega arith) ∙ word-same w3 (at + 3) d (at + 3) (omega arith) refl in
+    let p2 : word w6 (at + 2) ≡ c =
+    o6 (at + 2) (λ q. omega arith) ∙ o5 (at + 2) (λ q. omega arith) ∙ o4 (at + 2) (λ q. omega arith) ∙ word-same w2 (at + 2) c (at + 2) (omega arith) refl in
+    let p1 : word w6 (at + 1) ≡ b =
+    o6 (at + 1) (λ q. omega arith) ∙ o5 (at + 1) (λ q. omega arith) ∙ o4 (at + 1) (λ q. omega arith) ∙ o3 (at + 1) (λ q. omega arith) ∙
+    word-same w1 (at + 1) b (at + 1) (omega arith) refl in
+    let p0 : word w6 at ≡ a =
+    o6 at (λ q. omega arith) ∙ o5 at (λ q. omega arith) ∙ o4 at (λ q. omega arith) ∙ o3 at (λ q. omega arith) ∙ o2 at (λ q. omega arith) ∙
+    word-same ws at a at (omega arith) refl in
+    record {
+      same-length = l6;
+      row = rw (p0, p1, p2, p3, p4, p5);
+      below = λ i g.
+        o6 i (λ q. omega arith) ∙ o5 i (λ q. omega arith) ∙ o4 i (λ q. omega arith) ∙ o3 i (λ q. omega arith) ∙ o2 i (λ q. omega arith) ∙ o1 i (λ q. omega arith);
+      above = λ i g.
+        o6 i (λ q. omega arith) ∙ o5 i (λ q. omega arith) ∙ o4 i (λ q. omega arith) ∙ o3 i (λ q. omega arith) ∙ o2 i (λ q. omega arith) ∙ o1 i (λ q. omega arith);
+    })
+
+zeros-later : (ws : List ℕ) (start skip n : ℕ) → zeros ws start (skip + n) ≡ true → zeros ws (start + skip) n ≡ true
+unfolding zeros
+zeros-later ws start skip n e =
+    every-all (λ w. eqb w 0) (λ i. word ws i) 1 (start + skip) n (λ i h.
+      (let q : start + skip + 1 * i ≡ start + 1 * (skip + i) = omega arith in
+      ap (λ x. eqb (word ws x) 0) q ∙ every-index (λ w. eqb w 0) (λ i. word ws i) 1 start (skip + n) e (skip + i) (omega arith)))
+
+more-rows : (ws after : List ℕ) (s : Standing) → word after 11 ≡ suc (word ws 11)
+    → ((i : ℕ) → 12 ≤ i → i < 12 + 6 * word ws 11 → word after i ≡ word ws i) → standingAt after (12 + 6 * word ws 11) ≡ s
+    → standings after ≡ contents ws .standing ++ (s ∷ [])
+unfolding standings contents
+more-rows ws after s n e r =
+    ap (λ x. series (standingAt after) 6 12 x) n ∙ series-last (standingAt after) 6 12 (word ws 11) ∙
+    ap (λ l. l ++ (standingAt after (12 + 6 * word ws 11) ∷ []))
+    (series-same (standingAt after) (standingAt ws) 6 12 12 (word ws 11) (λ i h. standing-same ws after (12 + 6 * i) (λ j a b. e j (omega arith) (omega arith)))) ∙
+    ap (λ x. series (standingAt ws) 6 12 (word ws 11) ++ (x ∷ [])) r
+
+-- a connection more
+pub append-become : (ws mid : List ℕ) (s : Standing) (at v : ℕ) → Fitting ws → word ws 11 < 32 → at ≡ 12 + 6 * word ws 11 → v ≡ suc (word ws 11)
+    → RowPut ws mid at s → Become ws (set mid 11 v) (withStanding (contents ws) (contents ws .standing ++ (s ∷ [])))
+append-become ws mid s at v k l a q w =
+    (let after = set mid 11 v in
+    let n = word ws 11 in
+    let e : (i : ℕ) → (i ≡ 11 → ⊥) → word after i ≡ word mid i = λ i h. word-other mid 11 v i h in
+    let c : word after 11 ≡ suc n = word-same mid 11 v 11 (omega (arith, k .enough, w .same-length)) refl ∙ q in
+    let z0 : 6 + (192 - 6 * suc n) ≡ 192 - 6 * n = omega arith in
+    let z1 : 12 + 6 * n + 6 ≡ 12 + 6 * suc n = omega arith in
+    let z : zeros ws (12 + 6 * suc n) (192 - 6 * suc n) ≡ true =
+    sym (ap (λ x. zeros ws x (192 - 6 * suc n)) z1) ∙ zeros-later ws (12 + 6 * n) 6 (192 - 6 * suc n) (ap (zeros ws (12 + 6 * n)) z0 ∙ k .rows-clear) in
+    let b = rows-become ws after k (length-set mid 11 v ∙ w .same-length) (λ i h. e i (λ x. omega arith) ∙ w .below i (omega arith))
+        (λ i h. e i (λ x. omega arith) ∙ w .above i (omega arith)) (omega arith)
+        (rw c (zeros-same ws after (12 + 6 * suc n) (192 - 6 * suc n) (λ i x y. e i (λ u. omega arith) ∙ w .above i (omega arith)) ∙ z)) in
+    let r : standingAt after (12 + 6 * n) ≡ s =
+    standing-same mid after (12 + 6 * n) (λ j x y. e j (λ u. omega arith)) ∙ ap (standingAt mid) (sym a) ∙ w .row in
+    rw (more-rows ws after s c (λ i x y. e i (λ u. omega arith) ∙ w .below i (omega arith)) r) at b)

@@ -1,3 +1,10 @@
+use Rattle.words.specs.Places.{word}
+use native.Mathlib.Numerals.{add-one}
+use Rattle.words.proofs.RowChanges.{row-stored, append-become}
+use lib.ListN.{length, getD, take, drop, set}
+use native.Mathlib.Omega.{arith}
+use mathlib.Core.Path.{_≡_, refl, sym, ap, _∙_}
+use Prim.Native.Nat.{ℕ, suc, _+_, _*_, _-_, _^_, _/_, _%_, _≤_, _<_}
 use borrow.Author.Needs.{needs}
 use Rattle.words.proofs.parts.append_row.Statement.{statement}
 use Rattle.words.proofs.parts.append_row.Tie as tie
@@ -40,7 +47,11 @@ same-length c = search needs
 
 -- src/parts.rt:147:1
 returns : tie.Need-returns
-returns c = ?
+returns c = 
+    let s = c .before .before .before .before .before .before .before in
+    let ws = s .args .ws .now in
+    append-become ws (c .before .before .write-row .last .0) _ (6 * (2 + c .before .before .before .wide .result)) (word ws 11 + 1) (s .pre .0) (s .pre .1) (omega (arith, c .before .before .before .wide .ensures .0)) (add-one (word ws 11))
+    (c .before .before .write-row .ensures)
 
 pub append-row-spec : {M : Type 1} → statement M
 append-row-spec =
