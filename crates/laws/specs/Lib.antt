@@ -1,4 +1,5 @@
 -- Facts about numbers and lists that no document names, one place for all crates.
+pub mod Deciding
 pub mod Division
 pub mod Finding
 pub mod Found

@@ -6,8 +6,9 @@ use mathlib.Core.List.{List, [], _∷_, _++_, map, flatten, append-assoc, append
 use native.Mathlib.Omega.{arith}
 use native.Mathlib.Numerals.{add-one}
 use native.Mathlib.Nat.{mod-eq-of-lt, add-mod-right}
-use lib.ListN.{length, getD, take, drop, replicate, length-append}
-use lib.Seq.{drop-cons, drop-drop, drop-at, getD-drop, ext-getD}
+use lib.ListN.{length, getD, take, drop, set, replicate, length-append, length-set}
+use native.Mathlib.Decide.{ℕ-discrete}
+use lib.Seq.{drop-cons, drop-drop, drop-at, getD-drop, getD-set-same, getD-set-other, ext-getD}
 use lib.Dec.{eqb}
 use borrow.Author.Tests.{eqb-true}
 use Rattle.laws.specs.Tests.{every}
@@ -228,3 +229,68 @@ length-flatten f (suc n) =
       length-append (flatten (series f 1 0 n)) (f n),
       length-flatten f n,
     ))
+
+-- a test of what is left of a count: it fails at the value read, goes on after it, or is at its end
+module _ {A : Type 0} (test : A → Bool) (f : ℕ → A) (step start n i : ℕ) where
+  pub every-stop : i < n → test (f start) ≡ false → every test (series f step start (n - i)) ≡ false
+  unfolding every
+  every-stop h e = rw (series-next f step start n i h, e)
+
+  pub every-next : i < n → test (f start) ≡ true
+      → every test (series f step start (n - i)) ≡ every test (series f step (start + step) (n - (i + 1)))
+  unfolding every
+  every-next h e = rw (series-next f step start n i h, e)
+
+  pub every-end : n ≤ i → every test (series f step start (n - i)) ≡ true
+  unfolding every
+  every-end h = rw (series-done f step start n i h)
+
+pub every-index : {A : Type 0} (test : A → Bool) (f : ℕ → A) (step start n : ℕ) → every test (series f step start n) ≡ true
+    → (i : ℕ) → i < n → test (f (start + step * i)) ≡ true
+unfolding every series
+every-index test f step start zero e i h = absurd (omega arith)
+every-index test f step start (suc n) e zero h =
+    (let z : start + step * 0 ≡ start = omega arith in
+    ap (λ k. test (f k)) z ∙ and-eq-true-iff (test (f start)) (every test (series f step (start + step) n)) .0 e .0)
+every-index test f step start (suc n) e (suc i) h =
+    (let z : start + step * suc i ≡ start + step + step * i = omega arith in
+    ap (λ k. test (f k)) z ∙
+    every-index test f step (start + step) n (and-eq-true-iff (test (f start)) (every test (series f step (start + step) n)) .0 e .1) i (omega arith))
+
+pub every-all : {A : Type 0} (test : A → Bool) (f : ℕ → A) (step start n : ℕ)
+    → ((i : ℕ) → i < n → test (f (start + step * i)) ≡ true) → every test (series f step start n) ≡ true
+unfolding every series
+every-all test f step start zero h = refl
+every-all test f step start (suc n) h =
+    (let z : start + step * 0 ≡ start = omega arith in
+    and-eq-true-iff (test (f start)) (every test (series f step (start + step) n)) .1 (
+      sym (ap (λ k. test (f k)) z) ∙ h 0 (omega arith),
+      every-all test f step (start + step) n (λ i l.
+          (let e : start + step + step * i ≡ start + step * suc i = omega arith in ap (λ k. test (f k)) e ∙ h (suc i) (omega arith))),
+    ))
+
+-- one value of the list is another
+pub series-set : {A : Type 0} (f g : ℕ → A) (n k : ℕ) (d : A) → k < n → ((i : ℕ) → i < n → (i ≡ k → ⊥) → g i ≡ f i)
+    → series g 1 0 n ≡ set (series f 1 0 n) k (g k)
+series-set f g n k d h same =
+    (let a = series f 1 0 n in
+    let lf = length-series f 1 0 n in
+    let lg = length-series g 1 0 n in
+    ext-getD d (series g 1 0 n) (set a k (g k)) (lg ∙ sym (length-set a k (g k) ∙ lf)) (λ i l.
+    (let e : 0 + 1 * i ≡ i = omega arith in
+    let m : i < n = rw lg at l in
+    getD-series g 1 0 n i d m ∙ ap g e ∙
+    elim (ℕ-discrete i k) [
+      | yes q ↦ ap g q ∙ sym (ap (λ j. getD (set a k (g k)) j d) q ∙ getD-set-same a k (g k) d (rw lf h))
+      | no q ↦ same i m q ∙ sym (getD-set-other a k i (g k) d q ∙ getD-series f 1 0 n i d m ∙ ap f e)
+    ])))
+
+-- a list by any step is one by single steps
+pub series-unit : {A : Type 0} (f : ℕ → A) (step start n : ℕ) (d : A) → series f step start n ≡ series (λ i. f (start + step * i)) 1 0 n
+series-unit {A} f step start n d =
+    (let g : ℕ → A = λ i. f (start + step * i) in
+    let a = length-series f step start n in
+    let b = length-series g 1 0 n in
+    ext-getD d (series f step start n) (series g 1 0 n) (a ∙ sym b) (λ i h.
+    (let e : 0 + 1 * i ≡ i = omega arith in
+    getD-series f step start n i d (rw a at h) ∙ sym (getD-series g 1 0 n i d (rw a at h) ∙ ap g e))))

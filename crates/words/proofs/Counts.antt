@@ -6,6 +6,7 @@ use mathlib.Core.List.{List, [], _∷_, _++_, map, flatten}
 use native.Mathlib.Omega.{arith}
 use native.Mathlib.Nat.{add-comm, mod-lt}
 use lib.ListN.{length, getD, drop, length-append, length-drop, length-map, List·getD-eq-default}
+use lib.Seq.{drop-append-add, drop-drop}
 use lib.Dec.{leb}
 use borrow.Author.Tests.{leb-true, le-leb}
 use Rattle.laws.specs.Series.{series, length-series, series-self, length-flatten, sumBelow, sumBelow-same, sumBelow-zeros, sumBelow-turned, length-chunks}
@@ -14,8 +15,9 @@ use Rattle.meaning.specs.Box.{Box, Packet, waiting, sound}
 use Rattle.meaning.proofs.Facts.{SoundFacts, sound-facts, settings-facts}
 use Rattle.words.specs.Places.{boxWords, word, startOf, lengthsBelow, placeOf, tagOf}
 use Rattle.words.specs.Contents.{contents, settingsAt, standings, turnsAt, queueAt, queuesAt, standingWords, packetWords, linkWords, padded, turnsOf, byPlace, image, put}
-use Rattle.words.specs.Sound.{zeros, unusedClear, linkClear, untaggedEmpty, wellFormed, soundWords}
-use Rattle.words.proofs.PutContents.{Fitting, class-count, row-count, untagged-zero}
+use Rattle.words.specs.Sound.{zeros, unusedClear, linkClear, untaggedEmpty, wellFormed, soundWords, Fitting}
+use Rattle.words.proofs.PutContents.{put-contents, class-count, row-count, untagged-zero}
+use Rattle.words.proofs.TableReads.{interval-at, classes-at}
 use Rattle.words.proofs.ContentsPut.{Puttable, sound-puttable, length-queue, standing-size, packet-size, length-padded, link-size, length-places, contents-put, put-unused, put-link, put-untagged}
 
 pub lengths-sum : (ws : List ℕ) (p : ℕ) → lengthsBelow ws p ≡ sumBelow (λ i. word ws (211 + i)) p
@@ -104,6 +106,8 @@ sound-fitting ws e =
     let s = settings-facts (settingsAt ws) (f .settings-allowed) in
     record {
       enough = leb-true boxWords (length ws) (d .0);
+      interval = interval-at ws (s .interval-least);
+      classes-least = classes-at ws (s .classes-least);
       classes = omega (arith, s .classes-most, class-count ws);
       factors-clear = z .0;
       rows = omega (arith, f .connections-most, row-count ws);
@@ -113,3 +117,22 @@ sound-fitting ws e =
       untagged = b .1;
       total = omega (arith, f .waiting-most, waiting-count ws (b .1) (s .factor-most));
     })
+
+-- contents put over other contents, where these take no more words, are put over the words as they were
+pub put-put : (box other : Box) (ws : List ℕ) → length (image other) ≤ length (image box) → put box (put other ws) ≡ put box ws
+unfolding put
+put-put box other ws h =
+    (let n = length (image box) in
+    let m = length (image other) in
+    let e : n ≡ m + (n - m) = omega arith in
+    let d : drop n (image other ++ drop m ws) ≡ drop n ws =
+    ap (λ k. drop k (image other ++ drop m ws)) e ∙ drop-append-add (image other) (drop m ws) (n - m) ∙ drop-drop (n - m) m ws ∙ ap (λ k. drop k ws) (sym e) in
+    ap (λ l. image box ++ l) d)
+
+-- sound words are those that their own contents put
+pub sound-put-contents : (ws : List ℕ) → soundWords ws ≡ true → put (contents ws) ws ≡ ws
+sound-put-contents ws e = put-contents ws (sound-fitting ws e)
+
+-- sound contents put into words are read again
+pub sound-contents-put : (box : Box) (ws : List ℕ) → sound box ≡ true → contents (put box ws) ≡ box
+sound-contents-put box ws e = contents-put box ws (sound-puttable box e)

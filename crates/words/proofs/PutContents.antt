@@ -15,7 +15,7 @@ use Rattle.meaning.specs.Numbers.{largestFactor, classCount}
 use Rattle.meaning.specs.Box.{Box, Packet, Link, free, carries}
 use Rattle.words.specs.Places.{boxWords, word, startOf, lengthsBelow, placeOf, tagOf}
 use Rattle.words.specs.Contents.{contents, settingsAt, standingAt, standings, packetAt, linkOf, turnsAt, queueAt, queuesAt, padded, standingWords, packetWords, linkWords, turnsOf, byPlace, image, put}
-use Rattle.words.specs.Sound.{zeros, unusedClear, linkClear, emptyFrom, untaggedEmpty, wellFormed}
+use Rattle.words.specs.Sound.{zeros, unusedClear, linkClear, emptyFrom, untaggedEmpty, wellFormed, Fitting}
 use Rattle.words.proofs.Rotation.{place-below, tag-below, tag-of-place, place-of-tag}
 
 -- a list with the zeros that follow it is the whole stretch
@@ -136,18 +136,6 @@ pub by-place : (ws : List ℕ) → untaggedEmpty ws ≡ true → largestFactor (
 unfolding byPlace contents turnsOf turnsAt settingsAt
 by-place ws e h =
     series-same (λ p. getD (queuesAt ws) (tagOf (turnsAt ws) p) []) (queueAt ws) 1 0 0 64 (λ i l. queue-tagged ws e h (0 + 1 * i) (omega arith))
-
--- the numbers that words must keep for their contents to be put back: every sound state does
-pub record Fitting (ws : List ℕ) : Type 0 where
-  pub enough : 4371 ≤ length ws
-  pub classes : word ws 2 ≤ 8
-  pub factors-clear : zeros ws (3 + word ws 2) (8 - word ws 2) ≡ true
-  pub rows : word ws 11 ≤ 32
-  pub rows-clear : zeros ws (12 + 6 * word ws 11) (192 - 6 * word ws 11) ≡ true
-  pub link-clear : linkClear ws ≡ true
-  pub largest : largestFactor (settingsAt ws) ≤ 63
-  pub untagged : untaggedEmpty ws ≡ true
-  pub total : lengthsBelow ws 64 ≤ 1024
 
 -- where the tables end and the packets start: each part's words, one after another
 parts : (f : ℕ → ℕ) (m : ℕ)

@@ -2,7 +2,7 @@
 use Prim.Native.Nat.{ℕ, zero, suc, _+_, _*_, _-_, _/_, _%_, _≤_, _<_}
 use mathlib.Core.Path.{_≡_, refl, sym, ap, _∙_}
 use native.Mathlib.Omega.{arith}
-use native.Mathlib.Nat.{mod-lt, mod-eq-of-lt, mod-add-mod, add-mod-mod, add-mul-mod-self-right, div-add-mod'}
+use native.Mathlib.Nat.{mod-lt, mod-eq-of-lt, mod-add-mod, add-mod-mod, add-mod-right, add-mul-mod-self-right, div-add-mod'}
 use Rattle.words.specs.Places.{placeOf, tagOf}
 
 pub place-below : (turns k : ℕ) → placeOf turns k < 64
@@ -36,3 +36,8 @@ place-of-tag turns p h =
 pub place-turned : (turns k : ℕ) → placeOf (suc turns) k ≡ placeOf turns (suc k)
 unfolding placeOf
 place-turned turns k = (let e : suc turns + k ≡ turns + suc k = omega arith in ap (λ n. n % 64) e)
+
+-- after 64 tags the places come round
+pub place-whole : (turns : ℕ) → placeOf turns 64 ≡ placeOf turns 0
+unfolding placeOf
+place-whole turns = (let e : turns ≡ turns + 0 = omega arith in add-mod-right turns 64 ∙ ap (λ n. n % 64) e)

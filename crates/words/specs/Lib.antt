@@ -2,3 +2,6 @@
 pub mod Places
 pub mod Contents
 pub mod Sound
+pub mod Tested
+pub mod Opening
+pub mod Changes

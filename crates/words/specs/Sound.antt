@@ -1,5 +1,6 @@
 -- When words are sound: well formed, and their contents sound by document 01.
-use Prim.Native.Nat.{ℕ, zero, suc, _+_, _-_, _*_}
+use Prim.Native.Nat.{ℕ, zero, suc, _+_, _-_, _*_, _≤_, _<_}
+use mathlib.Core.Path.{_≡_}
 use mathlib.Core.Bool.{Bool, true, _&&_, cond}
 use mathlib.Core.List.{List}
 use lib.ListN.{length}
@@ -8,7 +9,7 @@ use Rattle.laws.specs.Series.{series}
 use Rattle.laws.specs.Tests.{every}
 use Rattle.meaning.specs.Numbers.{largestFactor}
 use Rattle.meaning.specs.Box.{sound}
-use Rattle.words.specs.Places.{boxWords, word, placeOf}
+use Rattle.words.specs.Places.{boxWords, word, lengthsBelow, placeOf}
 use Rattle.words.specs.Contents.{contents, settingsAt, turnsAt}
 
 -- n words from `start` on are 0.
@@ -38,3 +39,27 @@ wellFormed ws = leb boxWords (length ws) && unusedClear ws && linkClear ws && un
 -- "A state is sound exactly when its words stand for contents that" are sound; "a shorter state is not sound".
 unfoldable pub soundWords : List ℕ → Bool
 soundWords ws = wellFormed ws && sound (contents ws)
+
+-- The numbers that sound words keep, as the inner functions ask them.
+pub record Fitting (ws : List ℕ) : Type 0 where
+  pub enough : boxWords ≤ length ws
+  pub interval : 1 ≤ word ws 0
+  pub classes-least : 1 ≤ word ws 2
+  pub classes : word ws 2 ≤ 8
+  pub factors-clear : zeros ws (3 + word ws 2) (8 - word ws 2) ≡ true
+  pub rows : word ws 11 ≤ 32
+  pub rows-clear : zeros ws (12 + 6 * word ws 11) (192 - 6 * word ws 11) ≡ true
+  pub link-clear : linkClear ws ≡ true
+  pub largest : largestFactor (settingsAt ws) ≤ 63
+  pub untagged : untaggedEmpty ws ≡ true
+  pub total : lengthsBelow ws 64 ≤ 1024
+
+-- The tables of settings and connections keep what the test of a packet asks: every row's class has a factor.
+pub record Tables (ws : List ℕ) : Type 0 where
+  pub enough : boxWords ≤ length ws
+  pub interval : 1 ≤ word ws 0
+  pub classes-least : 1 ≤ word ws 2
+  pub classes : word ws 2 ≤ 8
+  pub rows : word ws 11 ≤ 32
+  pub class-least : (i : ℕ) → i < word ws 11 → 1 ≤ word ws (12 + 6 * i)
+  pub class-most : (i : ℕ) → i < word ws 11 → word ws (12 + 6 * i) ≤ word ws 2

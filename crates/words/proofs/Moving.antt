@@ -1,0 +1,121 @@
+-- Words that move four places, one store after another.
+use Prim.Native.Nat.{ℕ, zero, suc, _+_, _*_, _-_, _≤_, _<_}
+use mathlib.Core.Path.{_≡_, refl, sym, ap, _∙_}
+use mathlib.Core.List.{List}
+use native.Mathlib.Omega.{arith}
+use native.Mathlib.Decide.{decLe}
+use lib.ListN.{length, getD, set, length-set}
+use lib.Seq.{getD-set-same, getD-set-other}
+use Rattle.meaning.specs.Box.{Packet}
+use Rattle.words.specs.Places.{word}
+use Rattle.words.specs.Contents.{packetAt}
+use Rattle.words.specs.Changes.{MovedUp, MovedDown, PacketPut}
+
+-- a word after a store elsewhere
+pub word-other : (ws : List ℕ) (i v j : ℕ) → (j ≡ i → ⊥) → word (set ws i v) j ≡ word ws j
+word-other ws i v j h = getD-set-other ws i j v 0 h
+
+pub word-same : (ws : List ℕ) (i v j : ℕ) → i < length ws → j ≡ i → word (set ws i v) j ≡ v
+word-same ws i v j h e = ap (λ k. word (set ws i v) k) e ∙ getD-set-same ws i v 0 h
+
+-- the words from i to `to` have moved up
+pub record UpTo (ws after : List ℕ) (to i : ℕ) : Type 0 where
+  pub same-length : length after ≡ length ws
+  pub below : (j : ℕ) → j < i + 4 → word after j ≡ word ws j
+  pub moved : (j : ℕ) → i ≤ j → j < to → word after (j + 4) ≡ word ws j
+  pub above : (j : ℕ) → to + 4 ≤ j → word after j ≡ word ws j
+
+pub up-start : (ws : List ℕ) (to : ℕ) → UpTo ws ws to to
+up-start ws to =
+    record { same-length = refl; below = λ j h. refl; moved = λ j h k. absurd (omega arith); above = λ j h. refl }
+
+pub up-next : (ws after : List ℕ) (to i k : ℕ) → i ≡ suc k → k < to → to + 4 ≤ length ws → UpTo ws after to i
+    → UpTo ws (set after (k + 4) (word after k)) to k
+up-next ws after to i k e h l u =
+    record {
+      same-length = length-set after (k + 4) (word after k) ∙ u .same-length;
+      below = λ j b. word-other after (k + 4) (word after k) j (λ q. omega arith) ∙ u .below j (omega arith);
+      moved = λ j a b. elim (decLe j k) [
+        | yes c ↦
+            word-same after (k + 4) (word after k) (j + 4) (omega (arith, u .same-length)) (omega arith) ∙ u .below k (omega arith) ∙
+            (let q : k ≡ j = omega arith in ap (λ n. word ws n) q)
+        | no c ↦ word-other after (k + 4) (word after k) (j + 4) (λ q. omega arith) ∙ u .moved j (omega arith) b
+      ];
+      above = λ j b. word-other after (k + 4) (word after k) j (λ q. omega arith) ∙ u .above j b;
+    }
+
+pub up-end : (ws after : List ℕ) (from to i : ℕ) → i ≡ from → UpTo ws after to i → MovedUp ws after from to
+up-end ws after from to i e u =
+    record {
+      same-length = u .same-length;
+      below = λ j h. u .below j (omega arith);
+      moved = λ j h k. u .moved j (omega arith) k;
+      above = u .above;
+    }
+
+-- the words from `from + 4` to i + 4 have moved down
+pub record DownTo (ws after : List ℕ) (from i : ℕ) : Type 0 where
+  pub same-length : length after ≡ length ws
+  pub below : (j : ℕ) → j < from → word after j ≡ word ws j
+  pub moved : (j : ℕ) → from ≤ j → j < i → word after j ≡ word ws (j + 4)
+  pub above : (j : ℕ) → i ≤ j → word after j ≡ word ws j
+
+pub down-start : (ws : List ℕ) (from : ℕ) → DownTo ws ws from from
+down-start ws from =
+    record { same-length = refl; below = λ j h. refl; moved = λ j h k. absurd (omega arith); above = λ j h. refl }
+
+pub down-next : (ws after : List ℕ) (from i : ℕ) → from ≤ i → i + 4 < length ws → DownTo ws after from i
+    → DownTo ws (set after i (word after (i + 4))) from (i + 1)
+down-next ws after from i h l u =
+    record {
+      same-length = length-set after i (word after (i + 4)) ∙ u .same-length;
+      below = λ j b. word-other after i (word after (i + 4)) j (λ q. omega arith) ∙ u .below j b;
+      moved = λ j a b. elim (decLe i j) [
+        | yes c ↦
+            word-same after i (word after (i + 4)) j (omega (arith, u .same-length)) (omega arith) ∙ u .above (i + 4) (omega arith) ∙
+            (let q : i + 4 ≡ j + 4 = omega arith in ap (λ n. word ws n) q)
+        | no c ↦ word-other after i (word after (i + 4)) j (λ q. omega arith) ∙ u .moved j a (omega arith)
+      ];
+      above = λ j b. word-other after i (word after (i + 4)) j (λ q. omega arith) ∙ u .above j (omega arith);
+    }
+
+pub down-end : (ws after : List ℕ) (from to i : ℕ) → from + 4 ≤ to → i + 4 ≡ to → DownTo ws after from i → MovedDown ws after from to
+down-end ws after from to i h e u =
+    record {
+      same-length = u .same-length;
+      below = u .below;
+      moved = λ j a b. u .moved j a (omega arith);
+      above = λ j a b. u .above j (omega arith);
+    }
+
+-- four stores write a packet
+pub packet-stored : (ws : List ℕ) (at serial connection units arrival : ℕ) → at + 4 ≤ length ws
+    → PacketPut ws (set (set (set (set ws at serial) (at + 1) connection) (at + 2) units) (at + 3) arrival) at
+    (record { serial = serial; connection = connection; units = units; arrival = arrival })
+unfolding packetAt
+packet-stored ws at s n u a h =
+    (let w1 = set ws at s in
+    let w2 = set w1 (at + 1) n in
+    let w3 = set w2 (at + 2) u in
+    let w4 = set w3 (at + 3) a in
+    let l1 : length w1 ≡ length ws = length-set ws at s in
+    let l2 : length w2 ≡ length ws = length-set w1 (at + 1) n ∙ l1 in
+    let l3 : length w3 ≡ length ws = length-set w2 (at + 2) u ∙ l2 in
+    let l4 : length w4 ≡ length ws = length-set w3 (at + 3) a ∙ l3 in
+    let p0 : word w4 at ≡ s =
+    word-other w3 (at + 3) a at (λ q. omega arith) ∙ word-other w2 (at + 2) u at (λ q. omega arith) ∙
+    word-other w1 (at + 1) n at (λ q. omega arith) ∙ word-same ws at s at (omega arith) refl in
+    let p1 : word w4 (at + 1) ≡ n =
+    word-other w3 (at + 3) a (at + 1) (λ q. omega arith) ∙ word-other w2 (at + 2) u (at + 1) (λ q. omega arith) ∙
+    word-same w1 (at + 1) n (at + 1) (omega arith) refl in
+    let p2 : word w4 (at + 2) ≡ u =
+    word-other w3 (at + 3) a (at + 2) (λ q. omega arith) ∙ word-same w2 (at + 2) u (at + 2) (omega arith) refl in
+    let p3 : word w4 (at + 3) ≡ a = word-same w3 (at + 3) a (at + 3) (omega arith) refl in
+    let other : (i : ℕ) → (i ≡ at → ⊥) → (i ≡ at + 1 → ⊥) → (i ≡ at + 2 → ⊥) → (i ≡ at + 3 → ⊥) → word w4 i ≡ word ws i =
+    λ i b0 b1 b2 b3. word-other w3 (at + 3) a i b3 ∙ word-other w2 (at + 2) u i b2 ∙ word-other w1 (at + 1) n i b1 ∙ word-other ws at s i b0 in
+    record {
+      same-length = l4;
+      packet = rw (p0, p1, p2, p3);
+      below = λ i b. other i (λ q. omega arith) (λ q. omega arith) (λ q. omega arith) (λ q. omega arith);
+      above = λ i b. other i (λ q. omega arith) (λ q. omega arith) (λ q. omega arith) (λ q. omega arith);
+    })

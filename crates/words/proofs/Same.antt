@@ -1,0 +1,144 @@
+-- Parts of the contents that read the same words are the same.
+use Prim.Native.Nat.{ℕ, zero, suc, _+_, _*_, _-_, _/_, _%_, _≤_, _<_}
+use mathlib.Core.Path.{_≡_, refl, sym, ap, _∙_}
+use mathlib.Core.Bool.{Bool, true}
+use mathlib.Core.List.{List, [], _∷_}
+use native.Mathlib.Omega.{arith}
+use lib.ListN.{length, getD, drop}
+use lib.Seq.{ext-getD, getD-drop}
+use lib.ListN.{length-drop}
+use lib.Dec.{eqb}
+use Rattle.laws.specs.Series.{series, length-series, getD-series, series-same}
+use Rattle.laws.specs.Tests.{every}
+use Rattle.meaning.specs.Numbers.{Settings, largestFactor}
+use Rattle.meaning.specs.Box.{Box, Packet}
+use Rattle.words.specs.Places.{word, lengthsBelow, startOf, placeOf}
+use Rattle.words.specs.Contents.{contents, settingsAt, standings, standingAt, packetAt, linkOf, turnsAt, queueAt, queuesAt, put}
+use Rattle.words.specs.Sound.{zeros, linkClear, emptyFrom, untaggedEmpty, Fitting}
+use Rattle.words.specs.Changes.{Become}
+use Rattle.words.proofs.PutContents.{put-from}
+use Rattle.words.proofs.ContentsPut.{length-queue}
+
+-- the contents of a tagged queue
+pub queue-tagged-at : (ws : List ℕ) (tag : ℕ) → tag ≤ largestFactor (settingsAt ws)
+    → getD (contents ws .queues) tag [] ≡ queueAt ws (placeOf (turnsAt ws) tag)
+unfolding contents queuesAt
+queue-tagged-at ws tag h =
+    (let f : ℕ → List Packet = λ k. queueAt ws (placeOf (turnsAt ws) k) in
+    let e : 0 + 1 * tag ≡ tag = omega arith in
+    getD-series f 1 0 (suc (largestFactor (settingsAt ws))) tag [] (omega arith) ∙ ap f e)
+
+pub waiting-length : (ws : List ℕ) (tag : ℕ) → tag ≤ largestFactor (settingsAt ws)
+    → length (getD (contents ws .queues) tag []) ≡ word ws (211 + placeOf (turnsAt ws) tag)
+waiting-length ws tag h = ap length (queue-tagged-at ws tag h) ∙ length-queue ws (placeOf (turnsAt ws) tag)
+
+module _ (ws after : List ℕ) where
+  pub settings-same : word ws 2 ≤ 8 → ((i : ℕ) → i < 11 → word after i ≡ word ws i) → settingsAt after ≡ settingsAt ws
+  unfolding settingsAt
+  settings-same h e =
+      (let f : ℕ → ℕ = λ i. word ws i in
+      let g : ℕ → ℕ = λ i. word after i in
+      rw (e 0 (omega arith), e 1 (omega arith), e 2 (omega arith), series-same g f 1 3 3 (word ws 2) (λ i l. e (3 + 1 * i) (omega arith))))
+
+  pub standing-same : (at : ℕ) → ((i : ℕ) → at ≤ i → i < at + 6 → word after i ≡ word ws i) → standingAt after at ≡ standingAt ws at
+  unfolding standingAt
+  standing-same at e =
+      rw (
+        e at (omega arith) (omega arith),
+        e (at + 1) (omega arith) (omega arith),
+        e (at + 2) (omega arith) (omega arith),
+        e (at + 3) (omega arith) (omega arith),
+        e (at + 4) (omega arith) (omega arith),
+        e (at + 5) (omega arith) (omega arith),
+      )
+
+  pub standings-same : word ws 11 ≤ 32 → ((i : ℕ) → 11 ≤ i → i < 204 → word after i ≡ word ws i) → standings after ≡ standings ws
+  unfolding standings
+  standings-same h e =
+      rw (e 11 (omega arith) (omega arith))
+      (series-same (standingAt after) (standingAt ws) 6 12 12 (word ws 11)
+      (λ i l. standing-same (12 + 6 * i) (λ j a b. e j (omega arith) (omega arith))))
+
+  pub packet-same : (at other : ℕ) → ((k : ℕ) → k < 4 → word after (at + k) ≡ word ws (other + k)) → packetAt after at ≡ packetAt ws other
+  unfolding packetAt
+  packet-same at other e =
+      (let a : at + 0 ≡ at = omega arith in
+      let b : other + 0 ≡ other = omega arith in
+      let z : word after at ≡ word ws other = sym (ap (λ i. word after i) a) ∙ e 0 (omega arith) ∙ ap (λ i. word ws i) b in
+      rw (z, e 1 (omega arith), e 2 (omega arith), e 3 (omega arith)))
+
+  pub zeros-same : (start n : ℕ) → ((i : ℕ) → start ≤ i → i < start + n → word after i ≡ word ws i) → zeros after start n ≡ zeros ws start n
+  unfolding zeros
+  zeros-same start n e =
+      ap (every (λ w. eqb w 0)) (series-same (λ i. word after i) (λ i. word ws i) 1 start start n (λ i l. e (start + 1 * i) (omega arith) (omega arith)))
+
+  pub turns-same : word after 0 ≡ word ws 0 → word after 204 ≡ word ws 204 → turnsAt after ≡ turnsAt ws
+  unfolding turnsAt
+  turns-same a b = rw (a, b)
+
+  pub drop-same : (n : ℕ) → length after ≡ length ws → ((i : ℕ) → n ≤ i → word after i ≡ word ws i) → drop n after ≡ drop n ws
+  drop-same n l e =
+      ext-getD 0 (drop n after) (drop n ws) (rw (length-drop n after, length-drop n ws, l))
+      (λ i h. getD-drop n after i 0 ∙ e (n + i) (omega arith) ∙ sym (getD-drop n ws i 0))
+
+  -- words that become those of a box are the box put into them
+  pub become-put : (box : Box) → Become ws after box → after ≡ put box ws
+  become-put box b =
+      put-from ws after box (b .fitting) (b .stands-for)
+      (drop-same (275 + 4 * lengthsBelow after 64) (b .same-length) (b .beyond))
+
+-- words whose tables of settings and connections stay, with a clear link and queues in order, are fitting
+pub fitting-kept : (ws after : List ℕ) → Fitting ws → length after ≡ length ws
+    → ((i : ℕ) → i < 204 → word after i ≡ word ws i)
+    → linkClear after ≡ true → untaggedEmpty after ≡ true → lengthsBelow after 64 ≤ 1024 → Fitting after
+fitting-kept ws after k l e c u t =
+    (let two = e 2 (omega arith) in
+    let n = e 11 (omega arith) in
+    let set = settings-same ws after (k .classes) (λ i h. e i (omega arith)) in
+    record {
+      enough = omega (arith, k .enough);
+      interval = omega (arith, k .interval, e 0 (omega arith));
+      classes-least = omega (arith, k .classes-least);
+      classes = omega (arith, k .classes);
+      factors-clear = rw two (zeros-same ws after (3 + word ws 2) (8 - word ws 2) (λ i a b. e i (omega (arith, k .classes))) ∙ k .factors-clear);
+      rows = omega (arith, k .rows);
+      rows-clear = rw n (zeros-same ws after (12 + 6 * word ws 11) (192 - 6 * word ws 11) (λ i a b. e i (omega (arith, k .rows))) ∙ k .rows-clear);
+      link-clear = c;
+      largest = rw set (k .largest);
+      untagged = u;
+      total = t;
+    })
+
+pub link-clear-same : (ws after : List ℕ) → ((i : ℕ) → 206 ≤ i → i < 211 → word after i ≡ word ws i) → linkClear after ≡ linkClear ws
+unfolding linkClear
+link-clear-same ws after e =
+    rw (e 206 (omega arith) (omega arith), zeros-same ws after 207 4 (λ i a b. e i (omega arith) (omega arith)))
+
+-- words of the queues that stay give the same queues
+module _ (ws after : List ℕ) (e : (i : ℕ) → 211 ≤ i → word after i ≡ word ws i) where
+  pub lengths-same : (p : ℕ) → lengthsBelow after p ≡ lengthsBelow ws p
+  unfolding lengthsBelow
+  lengths-same zero = refl
+  lengths-same (suc p) = rw (lengths-same p, e (211 + p) (omega arith))
+
+  pub queue-same : (p : ℕ) → queueAt after p ≡ queueAt ws p
+  unfolding queueAt startOf
+  queue-same p =
+      rw (e (211 + p) (omega arith), lengths-same p)
+      (series-same (packetAt after) (packetAt ws) 4 (275 + 4 * lengthsBelow ws p) (275 + 4 * lengthsBelow ws p) (word ws (211 + p)) (λ i h.
+      packet-same ws after (275 + 4 * lengthsBelow ws p + 4 * i) (275 + 4 * lengthsBelow ws p + 4 * i) (λ j g. e (275 + 4 * lengthsBelow ws p + 4 * i + j) (omega arith))))
+
+  pub queues-same : settingsAt after ≡ settingsAt ws → turnsAt after ≡ turnsAt ws → queuesAt after ≡ queuesAt ws
+  unfolding queuesAt
+  queues-same s t =
+      rw (s, t)
+      (series-same (λ k. queueAt after (placeOf (turnsAt ws) k)) (λ k. queueAt ws (placeOf (turnsAt ws) k)) 1 0 0 (suc (largestFactor (settingsAt ws)))
+      (λ i h. queue-same (placeOf (turnsAt ws) (0 + 1 * i))))
+
+  pub untagged-same : settingsAt after ≡ settingsAt ws → turnsAt after ≡ turnsAt ws → untaggedEmpty after ≡ untaggedEmpty ws
+  unfolding untaggedEmpty emptyFrom
+  untagged-same s t =
+      (let r = largestFactor (settingsAt ws) in
+      rw (s, t)
+      (ap (every (λ w. eqb w 0)) (series-same (λ k. word after (211 + placeOf (turnsAt ws) k)) (λ k. word ws (211 + placeOf (turnsAt ws) k)) 1 (suc r) (suc r) (63 - r)
+      (λ i h. e (211 + placeOf (turnsAt ws) (suc r + 1 * i)) (omega arith)))))

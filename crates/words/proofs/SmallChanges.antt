@@ -1,0 +1,261 @@
+-- What the writers of the small parts write stands for the changed contents.
+use Prim.Native.Nat.{ℕ, zero, suc, _+_, _*_, _-_, _/_, _%_, _≤_, _<_}
+use mathlib.Core.Path.{_≡_, refl, sym, ap, _∙_}
+use mathlib.Core.Bool.{Bool, true, false, cond, _&&_, and-eq-true-iff, true≢false}
+use mathlib.Core.List.{List, [], _∷_, _++_}
+use mathlib.Core.Logic.{⊎-elim}
+use native.Mathlib.Omega.{arith}
+use native.Mathlib.Decide.{ℕ-discrete, decLe}
+use native.Mathlib.Nat.{div-add-mod', mod-lt}
+use lib.Arith.{digits-div, digits-mod}
+use lib.ListN.{length, getD, set, length-set}
+use lib.Dec.{ltb, eqb}
+use borrow.Author.Tests.{eq-eqb, eqb-true, lt-ltb}
+use Rattle.laws.specs.Series.{series, series-same, series-last, series-set, every-all}
+use Rattle.laws.specs.Tests.{every, bool-cases}
+use Rattle.meaning.specs.Numbers.{largestFactor}
+use Rattle.meaning.specs.Queues.{turnAt, turned, tagZeroWaits, withoutLowestHead, joinTail}
+use Rattle.meaning.specs.Box.{Box, Packet, Link, free, waiting}
+use Rattle.words.specs.Places.{word, lengthsBelow, startOf, placeOf}
+use Rattle.words.specs.Contents.{contents, settingsAt, standings, packetAt, linkOf, turnsAt, queueAt, queuesAt}
+use Rattle.words.specs.Sound.{zeros, linkClear, emptyFrom, untaggedEmpty, Fitting}
+use Rattle.words.specs.Changes.{Become, withAccepted, withLink, raised, PacketPut}
+use Rattle.words.proofs.PutContents.{untagged-zero, queue-untagged}
+use Rattle.words.proofs.ContentsPut.{length-queue}
+use Rattle.words.proofs.Counts.{waiting-count}
+use Rattle.words.proofs.Rotation.{place-below, place-turned, place-whole}
+use Rattle.words.proofs.Moving.{word-other, word-same}
+use Rattle.words.proofs.Same.{settings-same, standings-same, packet-same, zeros-same, turns-same, fitting-kept, link-clear-same, lengths-same, queue-same, queues-same, untagged-same}
+
+-- one change after another is one change, where the first leaves no more packets than the second
+pub become-then : (ws mid after : List ℕ) (first second : Box) → Become ws mid first → Become mid after second
+    → length (waiting first) ≤ length (waiting second) → Become ws after second
+become-then ws mid after first second a b h =
+    (let m = waiting-count mid (a .fitting .untagged) (a .fitting .largest) ∙ ap (λ x. length (waiting x)) (a .stands-for) in
+    let n = waiting-count after (b .fitting .untagged) (b .fitting .largest) ∙ ap (λ x. length (waiting x)) (b .stands-for) in
+    record {
+      fitting = b .fitting;
+      stands-for = b .stands-for;
+      same-length = b .same-length ∙ a .same-length;
+      beyond = λ i l. b .beyond i l ∙ a .beyond i (omega arith);
+    })
+
+-- the count of accepted packets
+pub accepted-become : (ws : List ℕ) (v : ℕ) → Fitting ws → Become ws (set ws 205 v) (withAccepted (contents ws) v)
+unfolding contents withAccepted
+accepted-become ws v k =
+    (let after = set ws 205 v in
+    let e : (i : ℕ) → (i ≡ 205 → ⊥) → word after i ≡ word ws i = λ i h. word-other ws 205 v i h in
+    let s = settings-same ws after (k .classes) (λ i h. e i (λ q. omega arith)) in
+    let t = turns-same ws after (e 0 (λ q. omega arith)) (e 204 (λ q. omega arith)) in
+    let far : (i : ℕ) → 211 ≤ i → word after i ≡ word ws i = λ i h. e i (λ q. omega arith) in
+    let l = lengths-same ws after far 64 in
+    record {
+      fitting = fitting-kept ws after k (length-set ws 205 v) (λ i h. e i (λ q. omega arith))
+          (link-clear-same ws after (λ i a b. e i (λ q. omega arith)) ∙ k .link-clear) (untagged-same ws after far s t ∙ k .untagged) (omega (arith, k .total));
+      stands-for =
+          rw (
+            s,
+            standings-same ws after (k .rows) (λ i a b. e i (λ q. omega arith)),
+            e 204 (λ q. omega arith),
+            word-same ws 205 v 205 (omega (arith, k .enough)) refl,
+            e 206 (λ q. omega arith),
+            packet-same ws after 207 207 (λ j g. e (207 + j) (λ q. omega arith)),
+            queues-same ws after far s t,
+          );
+      same-length = length-set ws 205 v;
+      beyond = λ i h. far i (omega arith);
+    })
+
+-- the link
+pub link-become : (ws after : List ℕ) (left : ℕ) (p : Packet) → Fitting ws → PacketPut (set ws 206 left) after 207 p → linkClear after ≡ true
+    → Become ws after (withLink (contents ws) (linkOf left p))
+unfolding contents withLink
+link-become ws after left p k w c =
+    (let mid = set ws 206 left in
+    let far : (i : ℕ) → 211 ≤ i → word after i ≡ word ws i = λ i h. w .above i (omega arith) ∙ word-other ws 206 left i (λ q. omega arith) in
+    let near : (i : ℕ) → i < 206 → word after i ≡ word ws i = λ i h. w .below i (omega arith) ∙ word-other ws 206 left i (λ q. omega arith) in
+    let s = settings-same ws after (k .classes) (λ i h. near i (omega arith)) in
+    let t = turns-same ws after (near 0 (omega arith)) (near 204 (omega arith)) in
+    let l = lengths-same ws after far 64 in
+    let n : length after ≡ length ws = w .same-length ∙ length-set ws 206 left in
+    record {
+      fitting = fitting-kept ws after k n (λ i h. near i (omega arith)) c (untagged-same ws after far s t ∙ k .untagged) (omega (arith, k .total));
+      stands-for =
+          rw (
+            s,
+            standings-same ws after (k .rows) (λ i a b. near i (omega arith)),
+            near 204 (omega arith),
+            near 205 (omega arith),
+            w .below 206 (omega arith) ∙ word-same ws 206 left 206 (omega (arith, k .enough)) refl,
+            w .packet,
+            queues-same ws after far s t,
+          );
+      same-length = n;
+      beyond = λ i h. far i (omega arith);
+    })
+
+-- a slot later floor(now/D) is one more exactly at a turn
+next-turn : (n D : ℕ) → 1 ≤ D → suc n % D ≡ 0 → suc n / D ≡ suc (n / D)
+next-turn n D h e =
+    (let q = n / D in
+    let r = n % D in
+    let a : q * D + r ≡ n = div-add-mod' n D in
+    let b : r < D = mod-lt n h in
+    elim (decLe D (suc r)) [
+      | yes k ↦ (let c : suc n ≡ suc q * D + 0 = omega arith in ap (λ m. m / D) c ∙ digits-div (suc q) {m = D} {r = 0} h)
+      | no k ↦
+          (let c : suc n ≡ q * D + suc r = omega arith in
+          let d : suc n % D ≡ suc r = ap (λ m. m % D) c ∙ digits-mod q {m = D} {r = suc r} (omega arith) in
+          absurd (omega arith))
+    ])
+
+no-turn : (n D : ℕ) → 1 ≤ D → (suc n % D ≡ 0 → ⊥) → suc n / D ≡ n / D
+no-turn n D h e =
+    (let q = n / D in
+    let r = n % D in
+    let a : q * D + r ≡ n = div-add-mod' n D in
+    let b : r < D = mod-lt n h in
+    elim (decLe D (suc r)) [
+      | yes k ↦ (let c : suc n ≡ suc q * D + 0 = omega arith in absurd (e (ap (λ m. m % D) c ∙ digits-mod (suc q) {m = D} {r = 0} h)))
+      | no k ↦ (let c : suc n ≡ q * D + suc r = omega arith in ap (λ m. m / D) c ∙ digits-div q {m = D} {r = suc r} (omega arith))
+    ])
+
+first-last : {A : Type 0} (f : ℕ → List A) (r : ℕ) → turned (series f 1 0 (suc r)) ≡ series f 1 1 r ++ (f 0 ∷ [])
+unfolding turned series
+first-last f r = refl
+
+-- "every tag falls by one, the old 0 becomes rP"
+turned-series : {A : Type 0} (f : ℕ → List A) (r : ℕ) → f (suc r) ≡ f 0 → series (λ k. f (suc k)) 1 0 (suc r) ≡ turned (series f 1 0 (suc r))
+turned-series {A} f r e =
+    (let g : ℕ → List A = λ k. f (suc k) in
+    let z : 0 + 1 * r ≡ r = omega arith in
+    series-last g 1 0 r ∙ ap (λ k. series g 1 0 r ++ (g k ∷ [])) z ∙ ap (λ q. series g 1 0 r ++ (q ∷ [])) e ∙
+    ap (λ l. l ++ (f 0 ∷ [])) (series-same g f 1 0 1 r (λ i h. (let y : suc (0 + 1 * i) ≡ 1 + 1 * i = omega arith in ap f y))) ∙ sym (first-last f r))
+
+first-empty : (q : List Packet) (qs : List (List Packet)) → tagZeroWaits (q ∷ qs) ≡ false → q ≡ []
+unfolding tagZeroWaits
+first-empty [] qs e = refl
+first-empty (p ∷ q) qs e = absurd (true≢false e)
+
+zero-empty : (ws : List ℕ) → tagZeroWaits (contents ws .queues) ≡ false → queueAt ws (placeOf (turnsAt ws) 0) ≡ []
+unfolding contents queuesAt series
+zero-empty ws e =
+    first-empty (queueAt ws (placeOf (turnsAt ws) 0)) (series (λ k. queueAt ws (placeOf (turnsAt ws) k)) 1 1 (largestFactor (settingsAt ws))) e
+
+zero-length : (ws : List ℕ) → tagZeroWaits (contents ws .queues) ≡ false → word ws (211 + placeOf (turnsAt ws) 0) ≡ 0
+zero-length ws e = sym (length-queue ws (placeOf (turnsAt ws) 0)) ∙ ap length (zero-empty ws e)
+
+-- past the last tag nothing waits: the places come round to tag 0
+past-last : (ws : List ℕ) → Fitting ws → tagZeroWaits (contents ws .queues) ≡ false
+    → (k : ℕ) → largestFactor (settingsAt ws) < k → k ≤ 64 → word ws (211 + placeOf (turnsAt ws) k) ≡ 0
+past-last ws f z k h l =
+    elim (decLe 64 k) [
+      | yes a ↦ (let e : k ≡ 64 = omega arith in ap (λ n. word ws (211 + placeOf (turnsAt ws) n)) e ∙ ap (λ p. word ws (211 + p)) (place-whole (turnsAt ws)) ∙ zero-length ws z)
+      | no a ↦ untagged-zero ws (f .untagged) k h (omega arith)
+    ]
+
+-- the counter
+module _ (ws : List ℕ) (v : ℕ) (k : Fitting ws) where
+  counted : (i : ℕ) → (i ≡ 204 → ⊥) → word (set ws 204 v) i ≡ word ws i
+  counted i h = word-other ws 204 v i h
+
+  counted-far : (i : ℕ) → 211 ≤ i → word (set ws 204 v) i ≡ word ws i
+  counted-far i h = counted i (λ q. omega arith)
+
+  counted-settings : settingsAt (set ws 204 v) ≡ settingsAt ws
+  counted-settings = settings-same ws (set ws 204 v) (k .classes) (λ i h. counted i (λ q. omega arith))
+
+  counter-become : (qs : List (List Packet)) → untaggedEmpty (set ws 204 v) ≡ true → queuesAt (set ws 204 v) ≡ qs
+      → Become ws (set ws 204 v) (record { settings = contents ws .settings; standing = contents ws .standing; counter = v; accepted = contents ws .accepted; link = contents ws .link; queues = qs })
+  unfolding contents
+  counter-become qs u q =
+      (let after = set ws 204 v in
+      let l = lengths-same ws after counted-far 64 in
+      record {
+        fitting = fitting-kept ws after k (length-set ws 204 v) (λ i h. counted i (λ q. omega arith))
+            (link-clear-same ws after (λ i a b. counted i (λ q. omega arith)) ∙ k .link-clear) u (omega (arith, k .total));
+        stands-for =
+            rw (
+              counted-settings,
+              standings-same ws after (k .rows) (λ i a b. counted i (λ q. omega arith)),
+              word-same ws 204 v 204 (omega (arith, k .enough)) refl,
+              counted 205 (λ q. omega arith),
+              counted 206 (λ q. omega arith),
+              packet-same ws after 207 207 (λ j g. counted (207 + j) (λ q. omega arith)),
+              q,
+            );
+        same-length = length-set ws 204 v;
+        beyond = λ i h. counted-far i (omega arith);
+      })
+
+  turns-after : turnsAt (set ws 204 v) ≡ v / word ws 0
+  unfolding turnsAt
+  turns-after = rw (word-same ws 204 v 204 (omega (arith, k .enough)) refl, counted 0 (λ q. omega arith))
+
+  turned-untagged : turnsAt (set ws 204 v) ≡ suc (turnsAt ws) → tagZeroWaits (contents ws .queues) ≡ false → untaggedEmpty (set ws 204 v) ≡ true
+  unfolding untaggedEmpty emptyFrom
+  turned-untagged t z =
+      (let r = largestFactor (settingsAt ws) in
+      rw (counted-settings, t)
+      (every-all (λ w. eqb w 0) (λ j. word (set ws 204 v) (211 + placeOf (suc (turnsAt ws)) j)) 1 (suc r) (63 - r) (λ i h.
+      (let j = suc r + 1 * i in
+      eq-eqb _ 0 (counted-far (211 + placeOf (suc (turnsAt ws)) j) (omega arith) ∙ ap (λ p. word ws (211 + p)) (place-turned (turnsAt ws) j) ∙
+      past-last ws k z (suc j) (omega arith) (omega arith))))))
+
+  turned-queues : turnsAt (set ws 204 v) ≡ suc (turnsAt ws) → tagZeroWaits (contents ws .queues) ≡ false → queuesAt (set ws 204 v) ≡ turned (contents ws .queues)
+  unfolding queuesAt contents
+  turned-queues t z =
+      (let r = largestFactor (settingsAt ws) in
+      let f : ℕ → List Packet = λ j. queueAt ws (placeOf (turnsAt ws) j) in
+      rw (counted-settings, t)
+      (series-same (λ j. queueAt (set ws 204 v) (placeOf (suc (turnsAt ws)) j)) (λ j. f (suc j)) 1 0 0 (suc r) (λ i h.
+      queue-same ws (set ws 204 v) counted-far (placeOf (suc (turnsAt ws)) (0 + 1 * i)) ∙ ap (queueAt ws) (place-turned (turnsAt ws) (0 + 1 * i))) ∙
+      turned-series f r
+      (queue-untagged ws (placeOf (turnsAt ws) (suc r)) (past-last ws k z (suc r) (omega arith) (omega (arith, k .largest))) ∙ sym (zero-empty ws z))))
+
+turn-slot : (D n : ℕ) → turnAt D (suc n) ≡ true → suc n % D ≡ 0
+unfolding turnAt
+turn-slot D n e = eqb-true (suc n % D) 0 (and-eq-true-iff (ltb 0 (suc n)) (eqb (suc n % D) 0) .0 e .1)
+
+no-turn-slot : (D n : ℕ) → turnAt D (suc n) ≡ false → suc n % D ≡ 0 → ⊥
+unfolding turnAt
+no-turn-slot D n e z =
+    true≢false (sym (and-eq-true-iff (ltb 0 (suc n)) (eqb (suc n % D) 0) .1 (lt-ltb 0 (suc n) (omega arith), eq-eqb (suc n % D) 0 z)) ∙ e)
+
+turns-is : (ws : List ℕ) → suc (word ws 204 / word ws 0) ≡ suc (turnsAt ws)
+unfolding turnsAt
+turns-is ws = refl
+
+turns-same-is : (ws : List ℕ) → word ws 204 / word ws 0 ≡ turnsAt ws
+unfolding turnsAt
+turns-same-is ws = refl
+
+queues-is : (ws : List ℕ) → queuesAt ws ≡ contents ws .queues
+unfolding contents
+queues-is ws = refl
+
+-- the box after a slot, where it is known whether a turn is due
+turn-box : (ws : List ℕ) (v : ℕ) (due : Bool) → Fitting ws → v ≡ suc (word ws 204) → turnAt (word ws 0) (suc (word ws 204)) ≡ due
+    → Become ws (set ws 204 v)
+    (record { settings = contents ws .settings; standing = contents ws .standing; counter = v; accepted = contents ws .accepted; link = contents ws .link; queues = cond due (turned (contents ws .queues)) (contents ws .queues) })
+    → Become ws (set ws 204 v) (raised (contents ws))
+unfolding raised contents settingsAt
+turn-box ws v due k e q b = rw (q, ← e) b
+
+pub raise-become : (ws : List ℕ) (v : ℕ) → Fitting ws → v ≡ suc (word ws 204)
+    → (turnAt (word ws 0) (suc (word ws 204)) ≡ true → tagZeroWaits (contents ws .queues) ≡ false)
+    → Become ws (set ws 204 v) (raised (contents ws))
+raise-become ws v k e z =
+    (let n = word ws 204 in
+    let D = word ws 0 in
+    ⊎-elim
+    (λ (q : turnAt D (suc n) ≡ true).
+    (let t = turns-after ws v k ∙ ap (λ m. m / D) e ∙ next-turn n D (k .interval) (turn-slot D n q) ∙ turns-is ws in
+    turn-box ws v true k e q (counter-become ws v k (turned (contents ws .queues)) (turned-untagged ws v k t (z q)) (turned-queues ws v k t (z q)))))
+    (λ (q : turnAt D (suc n) ≡ false).
+    (let t = turns-after ws v k ∙ ap (λ m. m / D) e ∙ no-turn n D (k .interval) (no-turn-slot D n q) ∙ turns-same-is ws in
+    turn-box ws v false k e q
+    (counter-become ws v k (contents ws .queues) (untagged-same ws (set ws 204 v) (counted-far ws v k) (counted-settings ws v k) t ∙ k .untagged)
+    (queues-same ws (set ws 204 v) (counted-far ws v k) (counted-settings ws v k) t ∙ queues-is ws))))
+    (bool-cases (turnAt D (suc n))))

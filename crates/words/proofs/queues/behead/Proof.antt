@@ -1,0 +1,148 @@
+use lib.ListN.{length, getD, take, drop, set}
+use lib.ListN.{length-set}
+use Rattle.words.proofs.Shift.{lengths-next, lengths-rise}
+use Rattle.words.proofs.TableReads.{lengths-most}
+use Rattle.words.proofs.JoinTake.{joined-become, behead-become}
+use Rattle.words.specs.Places.{word, placeOf, lengthsBelow}
+use Rattle.words.specs.Contents.{contents, turnsAt}
+use native.Mathlib.Omega.{arith}
+use mathlib.Core.Path.{_≡_, refl, sym, ap, _∙_}
+use Prim.Native.Nat.{ℕ, suc, _+_, _*_, _-_, _^_, _/_, _%_, _≤_, _<_}
+use borrow.Author.Needs.{needs}
+use Rattle.words.proofs.queues.behead.Statement.{statement}
+use Rattle.words.proofs.queues.behead.Tie as tie
+use Rattle.words.proofs.queues.behead.Reads as reads
+use Rattle.words.proofs.queues.behead.Lts as lts
+use Rattle.words.proofs.moves.move_down.Reads as move-down-reads
+use Rattle.words.proofs.numbers.lengths_below.Reads as lengths-below-reads
+use Rattle.words.proofs.queues.place_of.Reads as place-of-reads
+
+-- src/queues.rt:68:9
+place-of-requires : tie.Need-place-of-requires
+unfolding contents
+place-of-requires c κs = (c .before .before .pre .0, omega (arith, c .before .before .pre .0 .largest, c .before .before .pre .1))
+
+-- src/queues.rt:69:25
+lengths-below-requires : tie.Need-lengths-below-requires
+lengths-below-requires c κs = search needs
+
+-- src/queues.rt:69:21
+mul-end : tie.Need-mul-end
+mul-end c = search needs
+
+-- src/queues.rt:69:15
+add-end : tie.Need-add-end
+add-end c = search needs
+
+-- src/queues.rt:70:24
+lengths-below-requires-2 : tie.Need-lengths-below-requires-2
+lengths-below-requires-2 c κs = search needs
+
+-- src/queues.rt:70:20
+mul-at : tie.Need-mul-at
+mul-at c = search needs
+
+-- src/queues.rt:70:14
+add-at : tie.Need-add-at
+add-at c = search needs
+
+-- src/queues.rt:71:5
+move-down-requires : tie.Need-move-down-requires
+move-down-requires c κs =
+    let s = c .before .before .before .before .before .before .before .before in
+    let ws = s .args .ws .now in
+    let k = s .pre .0 in
+    let P = c .before .before .before .before .before .place-of .result in
+    let small = c .before .before .before .before .before .place-of .ensures .1 in
+    let a = c .before .lengths-below2 .ensures .0 in
+    let e = c .before .before .before .lengths-below .ensures .0 in
+    let l = lengths-most ws P 64 small in
+    let w = ap (λ m. word ws (211 + m)) (c .before .before .before .before .before .place-of .ensures .0) in
+    (omega (arith, s .pre .2), omega (arith, k .enough, k .total))
+
+-- src/queues.rt:72:26
+add-ws : tie.Need-add-ws
+add-ws c = search needs
+
+-- src/queues.rt:72:23
+mul-ws : tie.Need-mul-ws
+mul-ws c = search needs
+
+-- src/queues.rt:72:23
+slice-read-ws : tie.Need-slice-read-ws
+slice-read-ws c = search needs
+
+-- src/queues.rt:72:23
+sub-ws : tie.Need-sub-ws
+sub-ws c =
+    let s = c .before .before .before .before .before .before .before .before .before .before .before .before in
+    let ws = s .args .ws .now in
+    let k = s .pre .0 in
+    let P = c .before .before .before .before .before .before .before .before .before .place-of .result in
+    let small = c .before .before .before .before .before .before .before .before .before .place-of .ensures .1 in
+    let a = c .before .before .before .before .before .lengths-below2 .ensures .0 in
+    let e = c .before .before .before .before .before .before .before .lengths-below .ensures .0 in
+    let l = lengths-most ws P 64 small in
+    let w = ap (λ m. word ws (211 + m)) (c .before .before .before .before .before .before .before .before .before .place-of .ensures .0) in
+    let b = c .before .before .before .move-down .ensures .below (211 + P) (omega arith) in
+    omega (arith, s .pre .2)
+
+-- src/queues.rt:72:8
+add-ws-2 : tie.Need-add-ws-2
+add-ws-2 c = search needs
+
+-- src/queues.rt:72:5
+mul-ws-2 : tie.Need-mul-ws-2
+mul-ws-2 c = search needs
+
+-- src/queues.rt:72:5
+slice-write-ws : tie.Need-slice-write-ws
+slice-write-ws c = search needs
+
+-- src/queues.rt:64:1
+same-length : tie.Need-same-length
+same-length c = search needs
+
+-- src/queues.rt:64:1
+returns : tie.Need-returns
+unfolding contents
+returns c =
+    let s = c .before .before .before .before .before .before .before .before .before .before .before .before in
+    let ws = s .args .ws .now in
+    let k = s .pre .0 in
+    let P = c .before .before .before .before .before .before .before .before .before .place-of .result in
+    let small = c .before .before .before .before .before .before .before .before .before .place-of .ensures .1 in
+    let a = c .before .before .before .before .before .lengths-below2 .ensures .0 in
+    let e = c .before .before .before .before .before .before .before .lengths-below .ensures .0 in
+    let l = lengths-most ws P 64 small in
+    let g = s .args in
+    let q = c .before .before .before .before .before .before .before .before .before .place-of .ensures .0 in
+    let down = c .before .before .before .move-down .last .0 in
+    let w = ap (λ m. word ws (211 + m)) q in
+    let b = c .before .before .before .move-down .ensures .below (211 + P) (omega arith) in
+    let v : word down (211 + placeOf (turnsAt ws) (g .tag)) - 1 + 1 ≡ word down (211 + placeOf (turnsAt ws) (g .tag)) =
+    (let d = ap (λ m. word down (211 + m)) q in omega (arith, s .pre .2)) in
+    rw q (behead-become ws down (g .tag) k (s .pre .1) (s .pre .2) (275 + 4 * c .before .before .before .before .before .lengths-below2 .result) (275 + 4 * c .before .before .before .before .before .before .before .lengths-below .result)
+    (word down (211 + placeOf (turnsAt ws) (g .tag)) - 1) (ap (λ m. 275 + 4 * m) a ∙ ap (λ m. 275 + 4 * lengthsBelow ws m) q) (ap (λ m. 275 + 4 * m) e) (c .before .before .before .move-down .ensures) v)
+
+pub behead-spec : {M : Type 1} → statement M
+behead-spec =
+    tie.close
+    (tie.spec
+    place-of-requires
+    lengths-below-requires
+    mul-end
+    add-end
+    lengths-below-requires-2
+    mul-at
+    add-at
+    move-down-requires
+    add-ws
+    mul-ws
+    slice-read-ws
+    sub-ws
+    add-ws-2
+    mul-ws-2
+    slice-write-ws
+    same-length
+    returns)

@@ -1,0 +1,47 @@
+use Rattle.words.proofs.Same.{waiting-length}
+use Rattle.words.specs.Places.{word, placeOf}
+use Rattle.words.specs.Contents.{contents, settingsAt, turnsAt, queueAt, queuesAt}
+use native.Mathlib.Omega.{arith}
+use mathlib.Core.Path.{_≡_, refl, sym, ap, _∙_}
+use Prim.Native.Nat.{ℕ, suc, _+_, _*_, _-_, _^_, _/_, _%_, _≤_, _<_}
+use borrow.Author.Needs.{needs}
+use Rattle.words.proofs.queues.waiting_at.Statement.{statement}
+use Rattle.words.proofs.queues.waiting_at.Tie as tie
+use Rattle.words.proofs.queues.waiting_at.Reads as reads
+use Rattle.words.proofs.queues.waiting_at.Lts as lts
+use Rattle.words.proofs.numbers.wide.Reads as wide-reads
+use Rattle.words.proofs.queues.place_of.Reads as place-of-reads
+
+-- src/queues.rt:31:19
+place-of-requires : tie.Need-place-of-requires
+unfolding contents
+place-of-requires c κs = (c .before .pre .0, omega (arith, c .before .pre .0 .largest, c .before .pre .1))
+
+-- src/queues.rt:31:13
+add-wide : tie.Need-add-wide
+add-wide c = search needs
+
+-- src/queues.rt:31:10
+mul-wide : tie.Need-mul-wide
+mul-wide c = search needs
+
+-- src/queues.rt:31:10
+shared-slice-read-wide : tie.Need-shared-slice-read-wide
+shared-slice-read-wide c = search needs
+
+-- src/queues.rt:31:5
+wide-requires : tie.Need-wide-requires
+wide-requires c κs = search needs
+
+-- src/queues.rt:27:1
+returns : tie.Need-returns
+unfolding contents
+returns c =
+    let s = c .before .before .before .before in
+    let ws = s .args .ws .now in
+    c .wide .ensures .0 ∙ ap (λ p. word ws (211 + p)) (c .before .before .place-of .ensures .0) ∙ sym (waiting-length ws (s .args .tag) (s .pre .1))
+
+pub waiting-at-spec : {M : Type 1} → statement M
+waiting-at-spec =
+    tie.close
+    (tie.spec place-of-requires add-wide mul-wide shared-slice-read-wide wide-requires returns)

@@ -1,0 +1,118 @@
+use Rattle.words.specs.Places.{word, lengthsBelow}
+use mathlib.Core.Bool.{and-eq-true-iff}
+use lib.Dec.{leb}
+use Rattle.words.proofs.TableReads.{tables-tested}
+use Rattle.words.specs.Tested.{settingsTested, rowsTested, countsTested, linkTested, queuesTested, tested}
+use Rattle.words.proofs.TestedSound.{tested-sound}
+use lib.ListN.{length, getD, take, drop, set}
+use mathlib.Core.Bool.{Bool, true, false, _&&_, and-false, or-false}
+use borrow.Author.Tests.{leb-true, leb-false, le-leb, lt-leb, lt-ltb, le-ltb, eq-eqb, ne-eqb, not-true, not-false}
+use native.Mathlib.Omega.{arith}
+use mathlib.Core.Path.{_≡_, refl, sym, ap, _∙_}
+use Prim.Native.Nat.{ℕ, suc, _+_, _*_, _-_, _^_, _/_, _%_, _≤_, _<_}
+use borrow.Author.Needs.{needs}
+use Rattle.words.proofs.soundness.is_sound.Statement.{statement}
+use Rattle.words.proofs.soundness.is_sound.Tie as tie
+use Rattle.words.proofs.soundness.is_sound.Reads as reads
+use Rattle.words.proofs.soundness.is_sound.Lts as lts
+use Rattle.words.proofs.packets.link_tested.Reads as link-tested-reads
+use Rattle.words.proofs.rows.rows_tested.Reads as rows-tested-reads
+use Rattle.words.proofs.settings.settings_tested.Reads as settings-tested-reads
+use Rattle.words.proofs.soundness.counts_tested.Reads as counts-tested-reads
+use Rattle.words.proofs.soundness.queues_tested.Reads as queues-tested-reads
+
+-- src/soundness.rt:88:9
+returns : tie.Need-returns
+unfolding tested
+returns c =
+    let ws = c .before .before .args .ws .now in
+    sym (sym (tested-sound ws) ∙ simp (lt-leb _ _ (c .if1 .taken)))
+
+-- src/soundness.rt:90:9
+settings-tested-requires : tie.Need-settings-tested-requires
+settings-tested-requires c κs = search needs
+
+-- src/soundness.rt:91:9
+returns-2 : tie.Need-returns-2
+unfolding tested
+returns-2 c =
+    let ws = c .before .before .before .before .args .ws .now in
+    let e : settingsTested ws ≡ false = sym (c .before .settings-tested .ensures) ∙ not-true _ (c .if2 .taken) in
+    sym (sym (tested-sound ws) ∙ simp (e, and-false))
+
+-- src/soundness.rt:93:9
+rows-tested-requires : tie.Need-rows-tested-requires
+rows-tested-requires c κs = search needs
+
+-- src/soundness.rt:94:9
+returns-3 : tie.Need-returns-3
+unfolding tested
+returns-3 c =
+    let ws = c .before .before .before .before .before .before .args .ws .now in
+    let e : rowsTested ws ≡ false = sym (c .before .rows-tested .ensures) ∙ not-true _ (c .if3 .taken) in
+    sym (sym (tested-sound ws) ∙ simp (e, and-false))
+
+-- src/soundness.rt:96:9
+counts-tested-requires : tie.Need-counts-tested-requires
+counts-tested-requires c κs = search needs
+
+-- src/soundness.rt:97:9
+returns-4 : tie.Need-returns-4
+unfolding tested
+returns-4 c =
+    let ws = c .before .before .before .before .before .before .before .before .args .ws .now in
+    let e : countsTested ws ≡ false = sym (c .before .counts-tested .ensures) ∙ not-true _ (c .if4 .taken) in
+    sym (sym (tested-sound ws) ∙ simp (e, and-false))
+
+-- src/soundness.rt:99:9
+link-tested-requires : tie.Need-link-tested-requires
+link-tested-requires c κs =
+    let ws = c .before .before .before .before .before .before .before .before .args .ws .now in
+    tables-tested ws (c .before .before .before .before .before .before .if1 .left) (sym (c .before .before .before .before .before .settings-tested .ensures) ∙ not-false _ (c .before .before .before .before .if2 .left)) (sym (c .before .before .before .rows-tested .ensures) ∙ not-false _ (c .before .before .if3 .left))
+
+-- src/soundness.rt:100:9
+returns-5 : tie.Need-returns-5
+unfolding tested
+returns-5 c =
+    let ws = c .before .before .before .before .before .before .before .before .before .before .args .ws .now in
+    let e : linkTested ws ≡ false = sym (c .before .link-tested .ensures) ∙ not-true _ (c .if5 .taken) in
+    sym (sym (tested-sound ws) ∙ simp (e, and-false))
+
+-- src/soundness.rt:102:5
+queues-tested-requires : tie.Need-queues-tested-requires
+unfolding countsTested
+queues-tested-requires c κs =
+    let ws = c .before .before .before .before .before .before .before .before .before .before .args .ws .now in
+    let t = sym (c .before .before .before .counts-tested .ensures) ∙ not-false _ (c .before .before .if4 .left) in
+    let a = and-eq-true-iff (leb (word ws 204) 4000000000 && leb (lengthsBelow ws 64) 1024) _ .0 t in (
+      tables-tested ws (c .before .before .before .before .before .before .before .before .if1 .left) (sym (c .before .before .before .before .before .before .before .settings-tested .ensures) ∙ not-false _ (c .before .before .before .before .before .before .if2 .left)) (sym (c .before .before .before .before .before .rows-tested .ensures) ∙ not-false _ (c .before .before .before .before .if3 .left)),
+      leb-true (lengthsBelow ws 64) 1024 (and-eq-true-iff (leb (word ws 204) 4000000000) (leb (lengthsBelow ws 64) 1024) .0 (a .0) .1),
+    )
+
+-- src/soundness.rt:84:1
+returns-6 : tie.Need-returns-6
+unfolding tested
+returns-6 c =
+    let ws = c .before .before .before .before .before .before .before .before .before .before .before .args .ws .now in
+    let l : leb 4371 (length ws) ≡ true = le-leb _ _ (c .before .before .before .before .before .before .before .before .before .if1 .left) in
+    let s : settingsTested ws ≡ true = sym (c .before .before .before .before .before .before .before .before .settings-tested .ensures) ∙ not-false _ (c .before .before .before .before .before .before .before .if2 .left) in
+    let r : rowsTested ws ≡ true = sym (c .before .before .before .before .before .before .rows-tested .ensures) ∙ not-false _ (c .before .before .before .before .before .if3 .left) in
+    let n : countsTested ws ≡ true = sym (c .before .before .before .before .counts-tested .ensures) ∙ not-false _ (c .before .before .before .if4 .left) in
+    let k : linkTested ws ≡ true = sym (c .before .before .link-tested .ensures) ∙ not-false _ (c .before .if5 .left) in
+    c .queues-tested .ensures ∙ sym (sym (tested-sound ws) ∙ simp (l, s, r, n, k))
+
+pub is-sound-spec : {M : Type 1} → statement M
+is-sound-spec =
+    tie.close
+    (tie.spec
+    returns
+    settings-tested-requires
+    returns-2
+    rows-tested-requires
+    returns-3
+    counts-tested-requires
+    returns-4
+    link-tested-requires
+    returns-5
+    queues-tested-requires
+    returns-6)

@@ -1,0 +1,50 @@
+// Opening a box in lent words.
+use crate::settings::settings_allowed;
+use meaning::Opened;
+ghost use mathlib.Core.Path.{_≡_};
+ghost use mathlib.Core.List.{_++_};
+ghost use Prim.Native.Nat.{_+_, _≤_};
+ghost use lib.ListN.{length, take, drop};
+ghost use Rattle.words.specs.Opening.{asked, cleared, opened};
+
+// The first n words become 0.
+fn clear(ws: &mut [u32], n: usize)
+    requires { ⌜ n ≤ length (now ws) ⌝ }
+    ensures { λ _. ⌜ now (ws .exit) ≡ cleared n (now (ws .entry)) ⌝ }
+{
+    let mut i = 0;
+    while i < n {
+        ws[i] = 0;
+        i += 1;
+    }
+}
+
+// The factors stand from word 3 on.
+fn write_factors(ws: &mut [u32], factors: &[u32])
+    requires { ⌜ 3 + length (now factors) ≤ length (now ws) ⌝ }
+    ensures { λ _. ⌜ now (ws .exit) ≡ take 3 (now (ws .entry)) ++ now (factors .entry) ++ drop (3 + length (now (factors .entry))) (now (ws .entry)) ⌝ }
+{
+    let mut i = 0;
+    while i < factors.len() {
+        ws[3 + i] = factors[i];
+        i += 1;
+    }
+}
+
+// Opens a box: the words are then those of a new box, whatever stood there before; a refusal leaves them as they were.
+pub fn open(ws: &mut [u32], d: u32, m: u32, factors: &[u32]) -> Opened
+    ensures { λ r. ⌜ (r, now (ws .exit)) ≡ opened (asked d m (now (factors .entry))) (now (ws .entry)) ⌝ }
+{
+    if !settings_allowed(d, m, factors) {
+        return Opened::OffRange;
+    }
+    if ws.len() < 4371 {
+        return Opened::TooShort;
+    }
+    clear(ws, 275);
+    ws[0] = d;
+    ws[1] = m;
+    ws[2] = factors.len() as u32;
+    write_factors(ws, factors);
+    Opened::Done
+}
