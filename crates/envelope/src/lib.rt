@@ -67,3 +67,24 @@ pub fn charged(burst: u32, period: u32, a: Allowance, slot: u32) -> Allowance
         credit: credit - 1,
     }
 }
+
+// The allowance is charged where it lies, by an accepted packet.
+pub fn charge(a: &mut Allowance, burst: u32, period: u32, slot: u32)
+    requires { ⌜ Ready burst period (now a) slot × (conforms (sender burst period) (meant (now a)) slot ≡ true) ⌝ }
+    ensures { λ _. ⌜ meant (now (a .exit)) ≡ chargedIs (sender burst period) (meant (now (a .entry))) slot ⌝ }
+{
+    *a = charged(burst, period, *a, slot);
+}
+
+// The same for a caller that has the allowance as two numbers: it lies in a local, is lent, and is handed back.
+pub fn charge_record(next: u32, credit: u32, burst: u32, period: u32, slot: u32) -> Allowance
+    requires { ⌜ Ready burst period (record { next = next; credit = credit }) slot × (conforms (sender burst period) (record { next = next; credit = credit }) slot ≡ true) ⌝ }
+    ensures { λ r. ⌜ meant r ≡ chargedIs (sender burst period) (record { next = next; credit = credit }) slot ⌝ }
+{
+    let mut a = Allowance {
+        next: next,
+        credit: credit,
+    };
+    charge(&mut a, burst, period, slot);
+    a
+}
