@@ -128,7 +128,7 @@ def tables():
     yield f, c, a, 75
     yield f, c, a, 76
     yield f, c, [1000000, 1, 1], 60000
-    yield [1] * 8, [1] * 128, [1] * 12288, 60000
+    yield [1] * 8, [1] * 128, a, 60000
 
 
 def lines(name, data):

@@ -1,5 +1,5 @@
 -- Read and written again: the words of a plan that reads well are those of its contents.
-use Prim.Native.Nat.{ℕ, _+_, _-_, _*_, _/_, _%_, _^_, _≤_, _<_}
+use Prim.Native.Nat.{ℕ, _+_, _*_, _/_, _%_, _^_, _≤_, _<_}
 use mathlib.Core.Path.{_≡_, refl, sym, ap, _∙_, subst}
 use mathlib.Core.Bool.{Bool, true, false, _||_, true≢false}
 use mathlib.Core.List.{List, [], _∷_, _++_}
@@ -15,7 +15,7 @@ use Rattle.plan.specs.Entries.{length-table, factors-back, connections-b
 use Rattle.plan.specs.Words.{length-wordsOf, word-within}
 use Rattle.plan.specs.Back.{bytes-again}
 use Rattle.plan.specs.Layout.{Layout}
-use Rattle.plan.specs.Writing.{sum-append}
+use Rattle.plan.specs.Writing.{sum-append, sum-solved}
 use Rattle.plan.specs.Good.{Readable}
 
 -- Bytes of a right size.
@@ -67,10 +67,7 @@ unfolding sumWords sumWord sumOf
 sum-again start rest w h e =
     let t : sumOf (λ x. x) (start ++ (w ∷ rest)) ≡ w + sumOf (λ x. x) (start ++ rest) =
     omega (arith, sum-append start (w ∷ rest), sum-append start rest) in
-    solve (sumOf (λ x. x) (start ++ rest)) w h (ap (λ n. n % 2 ^ 32) (sym t) ∙ e)
-  where
-    solve : (s x : ℕ) → x < 2 ^ 32 → (x + s) % 2 ^ 32 ≡ 0 → (2 ^ 32 - s % 2 ^ 32) % 2 ^ 32 ≡ x
-    solve s x l f = omega arith
+    sum-solved (sumOf (λ x. x) (start ++ rest)) w h (ap (λ n. n % 2 ^ 32) (sym t) ∙ e)
 
 -- nine words that are the same, one by one
 same-nine :

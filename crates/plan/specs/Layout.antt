@@ -23,7 +23,7 @@ pub record Layout (size : ℕ) (h : Header) : Type 0 where
   pub ends : size ≡ planSize (h .classes .count) (h .connections .count) (h .arrivals .count)
 
 -- a conjunction's two parts
-both : (a b : Bool) → (a && b) ≡ true → (a ≡ true) × (b ≡ true)
+pub both : (a b : Bool) → (a && b) ≡ true → (a ≡ true) × (b ≡ true)
 both a b e = and-eq-true-iff a b .0 e
 
 pub layout-facts : (size : ℕ) (h : Header) → layoutWrong size h ≡ false → Layout size h

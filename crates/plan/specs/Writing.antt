@@ -1,10 +1,10 @@
 -- Laws on writing: the size of the plan of lent tables, its words, the word that its sum asks for, and its bytes.
 use Prim.Native.Nat.{ℕ, _+_, _-_, _*_, _/_, _%_, _^_, _≤_, _<_}
 use mathlib.Core.Path.{_≡_, refl, sym, ap, _∙_}
-use mathlib.Core.Bool.{Bool, true, false, not, _&&_, and-eq-true-iff}
+use mathlib.Core.Bool.{true, false, not}
 use mathlib.Core.List.{List, [], _∷_, _++_}
 use native.Mathlib.Omega.{arith}
-use native.Mathlib.Nat.{zero-add, mod-add-mod}
+use native.Mathlib.Nat.{zero-add, mod-add-mod, add-mod-mod}
 use lib.ListN.{length, take, drop}
 use lib.Seq.{take-all}
 use lib.Dec.{ltb, eqb}
@@ -12,6 +12,7 @@ use borrow.Author.Tests.{leb-true, eqb-true, not-false, lt-ltb, le-ltb, le-leb, 
 use Rattle.laws.specs.Sums.{sumOf}
 use Rattle.meaning.specs.declared.PlanWritten.{PlanWritten}
 use Rattle.meaning.specs.Plan.{Lent, writingAnswer, slotsWrong, lentPlan, lentWrong, countsAllowed, sizeOf, headerWords, tableWords, sumWord, sumWords, planWords, planBytes, connectionAt, arrivalAt}
+use Rattle.plan.specs.Layout.{both}
 use Rattle.plan.specs.Entries.{length-table, connections-back, arrivals-back}
 use Rattle.plan.specs.Bytes.{bytesOfWords, pasted}
 use Rattle.plan.specs.Pasting.{paste-four-words}
@@ -32,9 +33,6 @@ lengths-facts f c a e =
       connections-whole = eqb-true _ _ (q .1);
       arrivals-whole = eqb-true _ _ (p .1);
     }
-  where
-    both : (x y : Bool) → (x && y) ≡ true → (x ≡ true) × (y ≡ true)
-    both x y h = and-eq-true-iff x y .0 h
 
 pub lengths-right : (f c a : ℕ) → Lengths f c a → lengthsWrong f c a ≡ false
 unfolding lengthsWrong countsAllowed
@@ -53,6 +51,10 @@ unfolding sumOf
 sum-append [] m = sym (zero-add (sumOf (λ w. w) m))
 sum-append (a ∷ l) m = omega (arith, sum-append l m)
 
+-- the one number of 32 bits that brings a sum to 0
+pub sum-solved : (s x : ℕ) → x < 2 ^ 32 → (x + s) % 2 ^ 32 ≡ 0 → (2 ^ 32 - s % 2 ^ 32) % 2 ^ 32 ≡ x
+sum-solved s x l f = omega arith
+
 -- the word that is solved for, from the sums of the header and of the tables, one after another
 solved :
     (start f c a : List ℕ) (s₁ s₂ s₃ s₄ last : ℕ) → s₁ ≡ (0 + sumOf (λ w. w) (start ++ 0 ∷ [])) % 2 ^ 32 → s₂ ≡ (s₁ + sumOf (λ w. w) f) % 2 ^ 32 →
@@ -64,13 +66,10 @@ solved start f c a s₁ s₂ s₃ s₄ last e₁ e₂ e₃ e₄ l e =
     omega (arith, sum-append start (f ++ c ++ a), sum-append (f ++ c) a, sum-append f c, sum-append start (0 ∷ [])) in
     let one : s₁ ≡ sumOf (λ w. w) (start ++ 0 ∷ []) % 2 ^ 32 = e₁ ∙ ap (λ n. n % 2 ^ 32) (zero-add (sumOf (λ w. w) (start ++ 0 ∷ []))) in
     let four = more _ _ _ _ (more _ _ _ _ (more _ _ _ _ one e₂) e₃) e₄ in
-    rw all (solve _ s₄ last four l e)
+    rw all (sum-solved _ last l (sym (add-mod-mod last _ (2 ^ 32)) ∙ ap (λ n. (last + n) % 2 ^ 32) (sym four) ∙ e))
   where
     more : (x y z s : ℕ) → x ≡ y % 2 ^ 32 → s ≡ (x + z) % 2 ^ 32 → s ≡ (y + z) % 2 ^ 32
     more x y z s p q = q ∙ ap (λ n. (n + z) % 2 ^ 32) p ∙ mod-add-mod y (2 ^ 32) z
-
-    solve : (t s x : ℕ) → s ≡ t % 2 ^ 32 → x < 2 ^ 32 → (x + s) % 2 ^ 32 ≡ 0 → (2 ^ 32 - t % 2 ^ 32) % 2 ^ 32 ≡ x
-    solve t s x p b q = rw (← p) (omega arith)
 
 module _ (interval cycle : ℕ) (factors connections arrivals : List ℕ) (whole : Lengths (length factors) (length connections) (length arrivals)) where
   pub size-of-lent :

@@ -1,9 +1,25 @@
 // Runs the reader, the accessors, the walk over the slots and the writer on the plans of data/, and prints what each answers.
+ghost use mathlib.Core.Path.{_≡_};
 ghost use Prim.Native.Nat.{_<_, _^_};
+ghost use lib.ListN.{length};
 use libc::STDOUT_FILENO;
 use meaning::Header;
 use meaning::PlanRead;
 use meaning::PlanWritten;
+
+// Room for any plan and more, of sevens. Its contract says the length alone, so that no proof looks at the bytes.
+fn sevens() -> [u8; 70000]
+    ensures { λ r. ⌜ 70000 ≡ length r ⌝ }
+{
+    [7u8; 70000]
+}
+
+// Room for the words of the longest arrival table, and three more.
+fn ones() -> [u32; 12291]
+    ensures { λ r. ⌜ 12291 ≡ length r ⌝ }
+{
+    [1u32; 12291]
+}
 
 // A fixed word at the start of a line or within it.
 fn say(word: &[u8]) {
@@ -194,8 +210,8 @@ fn write_words(
 fn write_again(plan: &[u8], h: Header) {
     let mut factors = [0u32; 8];
     let mut connections = [0u32; 128];
-    let mut arrivals = [0u32; 12288];
-    let mut out = [7u8; 60000];
+    let mut arrivals = ones();
+    let mut out = sevens();
     write_words(
         plan,
         h,
@@ -219,7 +235,7 @@ fn write_into(factors: &[u32], connections: &[u32], arrivals: &[u32], out: &mut 
 }
 
 fn show_writing(factors: &[u32], connections: &[u32], arrivals: &[u32], room: usize) {
-    let mut out = [7u8; 60000];
+    let mut out = sevens();
     write_into(factors, connections, arrivals, &mut out, room);
 }
 
@@ -232,7 +248,7 @@ fn show_wrong_counts() {
     show_writing(&factors, &[1u32; 5], &arrivals, 60000);
     show_writing(&factors, &[1u32; 132], &arrivals, 60000);
     show_writing(&factors, &connections, &[1u32; 4], 60000);
-    show_writing(&factors, &connections, &[1u32; 12291], 60000);
+    show_writing(&factors, &connections, &ones(), 60000);
     show_writing(&[1u32; 9], &connections, &[5, 1, 1, 4, 1, 1], 0);
 }
 
@@ -247,7 +263,7 @@ fn show_wrong_slots_and_room() {
     show_writing(&factors, &connections, &arrivals, 75);
     show_writing(&factors, &connections, &arrivals, 76);
     show_writing(&factors, &connections, &[1000000, 1, 1], 60000);
-    show_writing(&[1u32; 8], &[1u32; 128], &[1u32; 12288], 60000);
+    show_writing(&[1u32; 8], &[1u32; 128], &arrivals, 60000);
 }
 
 // A good plan: what its header says, its tables, the walk over its slots, and the plan written again.
@@ -289,7 +305,7 @@ fn show(path: &[u8]) {
         os::fail(path);
         return;
     }
-    let mut plan = [0u8; 70000];
+    let mut plan = sevens();
     let n = io::read_full(fd, &mut plan);
     libc::close(fd);
     say(path);
