@@ -31,7 +31,7 @@ unfolding settingsAt
 cycle-is ws = refl
 
 -- the factor of class k lies at word 2 + k
-factor-is : (ws : List ℕ) (k : ℕ) → 1 ≤ k → k ≤ word ws 2 → factor (settingsAt ws) k ≡ word ws (2 + k)
+pub factor-is : (ws : List ℕ) (k : ℕ) → 1 ≤ k → k ≤ word ws 2 → factor (settingsAt ws) k ≡ word ws (2 + k)
 unfolding factor settingsAt
 factor-is ws k h l =
     let e : 3 + 1 * (k - 1) ≡ 2 + k = omega arith in

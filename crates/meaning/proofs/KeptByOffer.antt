@@ -84,6 +84,52 @@ every-join test (suc k) p (q ∷ qs) e f =
     let a = and-eq-true-iff (test q) (every test qs) .0 e in
     and-eq-true-iff (test q) (every test (joinTail k p qs)) .1 (a .0, every-join test k p qs (a .1) (λ r m. f r (List·Memᴰ·tail m)))
 
+-- A connection that stands in a sound box.
+module _ (box : Box) (n : ℕ) (facts : SoundFacts box) (standing : stands box n ≡ true) where
+  -- the row of the connection
+  abbrev pub row : Standing
+  row = getD (box .standing) (n - 1) (record { asked = noConnection; allowance = full noConnection })
+
+  pub number : (1 ≤ n) × (n ≤ length (box .standing))
+  unfolding stands
+  number = within-facts 1 n (length (box .standing)) standing
+
+  pub row-asked : connection box n ≡ row .asked
+  unfolding connection connections
+  row-asked = List·getD-map (λ (s : Standing). s .asked) (box .standing) (n - 1) (record { asked = noConnection; allowance = full noConnection })
+
+  pub row-allowance : allowance box n ≡ row .allowance
+  unfolding allowance
+  row-allowance = List·getD-map (λ (s : Standing). s .allowance) (box .standing) (n - 1) (record { asked = noConnection; allowance = full noConnection })
+
+  pub row-stands : List·Memᴰ row (box .standing)
+  row-stands = let k = number in getD-member (box .standing) (n - 1) (record { asked = noConnection; allowance = full noConnection }) (omega arith)
+
+  pub asked-allowed : ConnectionFacts (box .settings) (connection box n)
+  unfolding connection connections
+  asked-allowed =
+      let k = number in
+      let l : length (map (λ s. s .asked) (box .standing)) ≡ length (box .standing) = length-map (box .standing) (λ s. s .asked) in
+      connection-facts (box .settings) (connection box n)
+      (every-at (connectionAllowed (box .settings)) (connections box) (facts .connections-allowed)
+      (getD-member (connections box) (n - 1) noConnection (omega arith)))
+
+  pub allowance-kept : allowanceKept (connection box n) (box .counter) (allowance box n) ≡ true
+  unfolding allowancesKept
+  allowance-kept =
+      rw (row-asked, row-allowance)
+      (every-at (λ (s : Standing). allowanceKept (s .asked) (box .counter) (s .allowance)) (box .standing) (facts .allowances-kept) row-stands)
+
+  abbrev pub tag : ℕ
+  tag = factor (box .settings) (connection box n .class)
+
+  pub tag-within : tag < length (box .queues)
+  tag-within =
+      let f = asked-allowed in
+      let l = factor-within (box .settings) (connection box n .class) (settings-facts (box .settings) (facts .settings-allowed)) (f .class-least) (f .class-most) in
+      let q = facts .queue-count in
+      omega arith
+
 -- An accepted offer.
 module _ (box : Box) (n units : ℕ) (facts : SoundFacts box) (standing : stands box n ≡ true)
     (permitted : within 1 units (connection box n .longest) ≡ true) (fit : conforms (connection box n) (allowance box n) (box .counter) ≡ true)
@@ -95,32 +141,13 @@ module _ (box : Box) (n units : ℕ) (facts : SoundFacts box) (standing : stands
     abbrev after : Box
     after = afterOffer box n units (Offered.Accepted (suc (box .accepted)))
 
-    -- the row of the connection
-    abbrev row : Standing
-    row = getD (box .standing) (n - 1) (record { asked = noConnection; allowance = full noConnection })
-
-    number : (1 ≤ n) × (n ≤ length (box .standing))
-    unfolding stands
-    number = within-facts 1 n (length (box .standing)) standing
-
-    row-asked : connection box n ≡ row .asked
-    unfolding connection connections
-    row-asked = List·getD-map (λ (s : Standing). s .asked) (box .standing) (n - 1) (record { asked = noConnection; allowance = full noConnection })
-
-    row-allowance : allowance box n ≡ row .allowance
-    unfolding allowance
-    row-allowance = List·getD-map (λ (s : Standing). s .allowance) (box .standing) (n - 1) (record { asked = noConnection; allowance = full noConnection })
-
-    row-stands : List·Memᴰ row (box .standing)
-    row-stands = let k = number in getD-member (box .standing) (n - 1) (record { asked = noConnection; allowance = full noConnection }) (omega arith)
-
     connections-stay : connections after ≡ connections box
     unfolding connections afterOffer chargedAt
     connections-stay =
         map-set-same (λ (s : Standing). s .asked) (box .standing) (n - 1)
         (record { asked = connection box n; allowance = charged (connection box n) (allowance box n) (box .counter) })
         (record { asked = noConnection; allowance = full noConnection })
-        row-asked
+        (row-asked box n facts standing)
 
     connection-stays : (m : ℕ) → connection after m ≡ connection box m
     unfolding connection
@@ -129,31 +156,6 @@ module _ (box : Box) (n units : ℕ) (facts : SoundFacts box) (standing : stands
     count-stays : length (after .standing) ≡ length (box .standing)
     unfolding afterOffer chargedAt
     count-stays = length-set (box .standing) (n - 1) _
-
-    asked-allowed : ConnectionFacts (box .settings) (connection box n)
-    unfolding connection connections
-    asked-allowed =
-        let k = number in
-        let l : length (map (λ s. s .asked) (box .standing)) ≡ length (box .standing) = length-map (box .standing) (λ s. s .asked) in
-        connection-facts (box .settings) (connection box n)
-        (every-at (connectionAllowed (box .settings)) (connections box) (facts .connections-allowed)
-        (getD-member (connections box) (n - 1) noConnection (omega arith)))
-
-    allowance-kept : allowanceKept (connection box n) (box .counter) (allowance box n) ≡ true
-    unfolding allowancesKept
-    allowance-kept =
-        rw (row-asked, row-allowance)
-        (every-at (λ (s : Standing). allowanceKept (s .asked) (box .counter) (s .allowance)) (box .standing) (facts .allowances-kept) row-stands)
-
-    abbrev tag : ℕ
-    tag = factor (box .settings) (connection box n .class)
-
-    tag-within : tag < length (box .queues)
-    tag-within =
-        let f = asked-allowed in
-        let l = factor-within (box .settings) (connection box n .class) (settings-facts (box .settings) (facts .settings-allowed)) (f .class-least) (f .class-most) in
-        let q = facts .queue-count in
-        omega arith
 
     packet-stays : (p : Packet) → List·Memᴰ p (packets box) → PacketFacts after p
     unfolding afterOffer
@@ -176,7 +178,7 @@ module _ (box : Box) (n units : ℕ) (facts : SoundFacts box) (standing : stands
     newcomer-kept : PacketFacts after packet
     unfolding afterOffer
     newcomer-kept =
-        let k = number in
+        let k = (number box n facts standing) in
         let u = within-facts 1 units (connection box n .longest) permitted in
         let c = count-stays in
         record {
@@ -194,14 +196,14 @@ module _ (box : Box) (n units : ℕ) (facts : SoundFacts box) (standing : stands
     packet-after p m =
         ⊎-elim
         (λ (w : List·Memᴰ p (flatten (joined box packet))).
-        ⊎-elim (λ (e : p ≡ packet). rw e newcomer-kept) (λ o. packet-stays p (Memᴰ·append-left (onLink (box .link)) o)) (joined-member tag packet (box .queues) w))
+        ⊎-elim (λ (e : p ≡ packet). rw e newcomer-kept) (λ o. packet-stays p (Memᴰ·append-left (onLink (box .link)) o)) (joined-member (tag box n facts standing) packet (box .queues) w))
         (λ (l : List·Memᴰ p (onLink (box .link))). packet-stays p (Memᴰ·append-right (flatten (box .queues)) l))
         (List·Memᴰ·append-cases (flatten (joined box packet)) m)
 
     serials-after : serialsRise after ≡ true
     unfolding serialsRise afterOffer joined waiting packets
     serials-after =
-        every-join (λ q. risingAbove 0 (map (λ p. p .serial) q)) tag packet (box .queues) (facts .serials-rise)
+        every-join (λ q. risingAbove 0 (map (λ p. p .serial) q)) (tag box n facts standing) packet (box .queues) (facts .serials-rise)
         (λ q m e.
         rw (map-append (λ (p : Packet). p .serial) q (packet ∷ []))
         (rising-last 0 (map (λ p. p .serial) q) (suc (box .accepted)) e (omega arith)
@@ -212,14 +214,14 @@ module _ (box : Box) (n units : ℕ) (facts : SoundFacts box) (standing : stands
         let i = s .2 in
         omega arith)))
 
-    newcomer-rank : rankIn box packet ≡ box .counter / box .settings .interval + (0 + tag)
+    newcomer-rank : rankIn box packet ≡ box .counter / box .settings .interval + (0 + (tag box n facts standing))
     unfolding rankIn rank
     newcomer-rank = omega arith
 
-    newcomer-placed : inPlace after (0 + tag) packet ≡ true
+    newcomer-placed : inPlace after (0 + (tag box n facts standing)) packet ≡ true
     unfolding afterOffer
     newcomer-placed =
-        eq-eqb (rankIn after packet) (box .counter / box .settings .interval + (0 + tag))
+        eq-eqb (rankIn after packet) (box .counter / box .settings .interval + (0 + (tag box n facts standing)))
         (rank-same box after packet refl (connection-stays n) ∙ newcomer-rank)
 
     queues-after : inTheirQueues after 0 (after .queues) ≡ true
@@ -229,16 +231,16 @@ module _ (box : Box) (n units : ℕ) (facts : SoundFacts box) (standing : stands
         tagged-weaken (inPlace box) (inPlace after) 0 0 (box .queues)
         (λ t p m h. let z : 0 + t ≡ t = omega arith in rw (rank-same box after p refl (connection-stays (p .connection))) (rw z at h))
         (sym (in-their-queues-tagged box 0 (box .queues)) ∙ facts .in-their-queues) in
-        in-their-queues-tagged after 0 (joined box packet) ∙ tagged-join (inPlace after) tag 0 packet (box .queues) stays newcomer-placed
+        in-their-queues-tagged after 0 (joined box packet) ∙ tagged-join (inPlace after) (tag box n facts standing) 0 packet (box .queues) stays newcomer-placed
 
     accepted-sound : sound after ≡ true
     unfolding afterOffer joined waiting packets allowancesKept chargedAt
     accepted-sound =
-        let w = joined-length tag packet (box .queues) tag-within in
+        let w = joined-length (tag box n facts standing) packet (box .queues) (tag-within box n facts standing) in
         let c = count-stays in
         let k = facts .connections-most in
         let m = facts .count-most in
-        let f = asked-allowed in
+        let f = (asked-allowed box n facts standing) in
         sound-test after
         (record {
           settings-allowed = facts .settings-allowed;
@@ -246,7 +248,7 @@ module _ (box : Box) (n units : ℕ) (facts : SoundFacts box) (standing : stands
           connections-allowed = rw connections-stay (facts .connections-allowed);
           waiting-most = omega arith;
           counter-most = facts .counter-most;
-          queue-count = joined-count tag packet (box .queues) ∙ facts .queue-count;
+          queue-count = joined-count (tag box n facts standing) packet (box .queues) ∙ facts .queue-count;
           in-their-queues = queues-after;
           serials-rise = serials-after;
           packets-kept = every-all (packetKept after) (packets after) (λ p m. packet-test after p (packet-after p m));
@@ -254,7 +256,7 @@ module _ (box : Box) (n units : ℕ) (facts : SoundFacts box) (standing : stands
           count-most = (let x = length-append (flatten (box .queues)) (onLink (box .link)) in simp length-append (omega arith));
           allowances-kept =
               every-set (λ (s : Standing). allowanceKept (s .asked) (box .counter) (s .allowance)) (box .standing) (n - 1) _ (facts .allowances-kept)
-              (charged-kept (connection box n) (box .counter) (allowance box n) (f .period-least) (f .burst-least) allowance-kept fit);
+              (charged-kept (connection box n) (box .counter) (allowance box n) (f .period-least) (f .burst-least) (allowance-kept box n facts standing) fit);
         })
 
 -- An offer keeps a sound box sound.

@@ -1,0 +1,4 @@
+pub mod Admits
+pub mod Offers
+pub mod Sounds
+pub mod Steps

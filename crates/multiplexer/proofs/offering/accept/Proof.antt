@@ -1,0 +1,127 @@
+-- `multiplexer::offering::accept` meets its contract.
+use mathlib.Core.Path.{_≡_, sym, ap, subst, _∙_}
+use native.Mathlib.Numerals.{add-one}
+use Prim.Native.Nat.{suc}
+use native.Mathlib.Omega.{arith}
+use Rattle.meaning.specs.Envelope.{Allowance, conforms, charged as chargedIs}
+use Rattle.meaning.specs.Queues.{joinTail}
+use Rattle.words.specs.Places.{word}
+use Rattle.words.specs.Contents.{contents}
+use Rattle.words.specs.Changes.{Become, withQueues}
+use Rattle.words.proofs.Counts.{sound-fitting}
+use Rattle.multiplexer.specs.Promised.{askedIn, allowanceIn, RowReady}
+use Rattle.multiplexer.proofs.Offers.{packet-is, row-ready, class-within, accepted-most, envelope-ready, conforms-same, charged-same, number-within, join-ready, count-ready, accepted-becomes}
+use borrow.Author.Needs.{needs}
+use Rattle.multiplexer.proofs.offering.accept.Statement.{statement}
+use Rattle.multiplexer.proofs.offering.accept.Tie as tie
+
+counter-requires : tie.Need-counter-requires
+counter-requires c κs = let s = c .before .before in sound-fitting (s .args .ws .now) (s .pre .sound-words)
+
+accepted-requires : tie.Need-accepted-requires
+accepted-requires c κs = let s = c .before .before .before .before in sound-fitting (s .args .ws .now) (s .pre .sound-words)
+
+add-serial : tie.Need-add-serial
+add-serial c = let s = c .before .before .before .before .before in omega (arith, c .accepted .ensures, accepted-most (s .args .ws .now) (s .pre .sound-words))
+
+tag-of-requires : tie.Need-tag-of-requires
+tag-of-requires c κs =
+    let s = c .before .before .before .before .before .before in
+    let ws = s .args .ws .now in
+    let ok = s .pre in
+    (ok .sound-words, class-within ws (s .args .n) (s .args .row) (ok .sound-words) (ok .number-stands) (ok .row-asked) (ok .row-allowance))
+
+charge-record-requires : tie.Need-charge-record-requires
+charge-record-requires c κs =
+    let s = c .before .before .before .before .before .before .before in
+    let ws = s .args .ws .now in
+    let ok = s .pre in
+    let row = s .args .row in
+    let slot = c .before .before .before .before .counter in
+    let r = row-ready ws (s .args .n) row (ok .sound-words) (ok .number-stands) (ok .row-asked) (ok .row-allowance) in (
+      envelope-ready row (slot .result) (subst (RowReady row) (sym (slot .ensures)) r),
+      conforms-same row (allowanceIn row) (slot .result) ∙ ap (conforms (askedIn row) (allowanceIn row)) (slot .ensures) ∙ ok .fit,
+    )
+
+write-allowance-requires : tie.Need-write-allowance-requires
+write-allowance-requires c κs =
+    let s = c .before .before .before .before .before .before .before .before .before in
+    let ws = s .args .ws .now in
+    let ok = s .pre in
+    let k = number-within ws (s .args .n) (ok .number-stands) in
+    (sound-fitting ws (ok .sound-words), k .0, k .1)
+
+join-requires : tie.Need-join-requires
+join-requires c κs =
+    let s = c .before .before .before .before .before .before .before .before .before .before .before .before .before in
+    let ws = s .args .ws .now in
+    let ok = s .pre in
+    let row = s .args .row in
+    let n = s .args .n in
+    let units = s .args .units in
+    let charged = c .before .before .before .before .before .charge-record in
+    let tag = c .before .before .before .before .before .before .tag-of in
+    let wrote = c .before .before .before .write-allowance in
+    let a : Allowance = record { next = charged .result .next; credit = charged .result .credit } in
+    join-ready ws n units row ok a (tag .result) (wrote .last .0) (wrote .ensures) (tag .ensures .1)
+
+count-accepted-requires : tie.Need-count-accepted-requires
+count-accepted-requires c κs =
+    let s = c .before .before .before .before .before .before .before .before .before .before .before .before .before .before .before .before .before in
+    let ws = s .args .ws .now in
+    let ok = s .pre in
+    let row = s .args .row in
+    let n = s .args .n in
+    let units = s .args .units in
+    let charged = c .before .before .before .before .before .before .before .before .before .charge-record in
+    let tag = c .before .before .before .before .before .before .before .before .before .before .tag-of in
+    let wrote = c .before .before .before .before .before .before .before .write-allowance in
+    let a : Allowance = record { next = charged .result .next; credit = charged .result .credit } in
+    let joined = c .before .before .before .join in
+    let slot = c .before .before .before .before .before .before .before .before .before .before .before .before .before .before .counter in
+    let serial = c .before .before .before .before .before .before .before .before .before .before .before .before .accepted in
+    let joins = subst (λ p. Become (wrote .last .0) (joined .last .0) (withQueues (contents (wrote .last .0)) (joinTail (tag .result) p (contents (wrote .last .0) .queues))))
+    (packet-is ws n units (serial .result) (slot .result) (serial .ensures) (slot .ensures)) (joined .ensures) in
+    count-ready ws n units row ok a (tag .result) (wrote .last .0) (wrote .ensures) (joined .last .0) joins
+
+same-length : tie.Need-same-length
+same-length c = search needs
+
+returns : tie.Need-returns
+returns c =
+    let s = c .before .before .before .before .before .before .before .before .before .before .before .before .before .before .before .before .before .before .before .before in
+    let ws = s .args .ws .now in
+    let ok = s .pre in
+    let row = s .args .row in
+    let n = s .args .n in
+    let units = s .args .units in
+    let charged = c .before .before .before .before .before .before .before .before .before .before .before .before .charge-record in
+    let tag = c .before .before .before .before .before .before .before .before .before .before .before .before .before .tag-of in
+    let wrote = c .before .before .before .before .before .before .before .before .before .before .write-allowance in
+    let a : Allowance = record { next = charged .result .next; credit = charged .result .credit } in
+    let joined = c .before .before .before .before .before .before .join in
+    let counted = c .before .before .count-accepted in
+    let slot = c .before .before .before .before .before .before .before .before .before .before .before .before .before .before .before .before .before .counter in
+    let serial = c .before .before .before .before .before .before .before .before .before .before .before .before .before .before .before .accepted in
+    let joins = subst (λ p. Become (wrote .last .0) (joined .last .0) (withQueues (contents (wrote .last .0)) (joinTail (tag .result) p (contents (wrote .last .0) .queues))))
+    (packet-is ws n units (serial .result) (slot .result) (serial .ensures) (slot .ensures)) (joined .ensures) in
+    let e : a ≡ chargedIs (askedIn row) (allowanceIn row) (contents ws .counter) =
+    charged .ensures ∙ charged-same row (allowanceIn row) (slot .result) ∙ ap (chargedIs (askedIn row) (allowanceIn row)) (slot .ensures) in (
+      add-one (serial .result) ∙ ap suc (serial .ensures),
+      accepted-becomes ws n units row ok a (tag .result) (wrote .last .0) (wrote .ensures) (joined .last .0) joins e (tag .ensures .0) (tag .ensures .1) (counted .last .0) (counted .ensures),
+    )
+
+pub accept-spec : {M : Type 1} → statement M
+accept-spec =
+    tie.close
+    (tie.spec
+    counter-requires
+    accepted-requires
+    add-serial
+    tag-of-requires
+    charge-record-requires
+    write-allowance-requires
+    join-requires
+    count-accepted-requires
+    same-length
+    returns)

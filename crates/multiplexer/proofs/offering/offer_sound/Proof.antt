@@ -1,0 +1,159 @@
+-- `multiplexer::offering::offer_sound` meets its contract.
+use mathlib.Core.Path.{refl, sym, ap, ap₂, subst, _∙_}
+use native.Mathlib.Omega.{arith}
+use borrow.Author.Tests.{not-true, not-false}
+use Rattle.laws.specs.Tests.{within}
+use Rattle.meaning.specs.declared.Offered.{Offered}
+use Rattle.meaning.specs.Envelope.{conforms}
+use Rattle.meaning.specs.Calls.{afterOffer}
+use Rattle.words.specs.Contents.{contents}
+use Rattle.words.proofs.Counts.{sound-fitting}
+use Rattle.words.proofs.TestedSound.{sound-contents}
+use Rattle.multiplexer.specs.Promised.{askedIn, allowanceIn, RowReady}
+use Rattle.multiplexer.proofs.Offers.{stands-as, number-within, row-ready, answer-unknown, answer-length, answer-unfit, answer-full, answer-accepted, refused, taken}
+use borrow.Author.Needs.{needs}
+use Rattle.multiplexer.proofs.offering.offer_sound.Statement.{statement}
+use Rattle.multiplexer.proofs.offering.offer_sound.Tie as tie
+
+standing-count-requires : tie.Need-standing-count-requires
+standing-count-requires c κs = let s = c .before .before in sound-fitting (s .args .ws .now) (s .pre)
+
+is-within-requires : tie.Need-is-within-requires
+is-within-requires c κs = search needs
+
+same-length : tie.Need-same-length
+same-length c = search needs
+
+returns : tie.Need-returns
+unfolding afterOffer
+returns c =
+    let s = c .before .before .before .before .before in
+    let ws = s .args .ws .now in
+    let n = s .args .n in
+    let units = s .args .units in
+    refused ws n units (s .pre) Offered.NoConnection (answer-unknown (contents ws) n units (sound-contents ws (s .pre)) (stands-as (contents ws) n (c .before .before .standing-count .result) (c .before .before .standing-count .ensures) (c .before .is-within .result) (c .before .is-within .ensures) (not-true (c .before .is-within .result) (c .if1 .taken)))) refl
+
+read-row-requires : tie.Need-read-row-requires
+read-row-requires c κs =
+    let s = c .before .before .before .before .before .before in
+    let ws = s .args .ws .now in
+    let n = s .args .n in
+    let units = s .args .units in
+    let k = number-within ws n (stands-as (contents ws) n (c .before .before .before .standing-count .result) (c .before .before .before .standing-count .ensures) (c .before .before .is-within .result) (c .before .before .is-within .ensures) (not-false (c .before .before .is-within .result) (c .before .if1 .left))) in
+    (sound-fitting ws (s .pre), k .0, k .1)
+
+is-within-requires-2 : tie.Need-is-within-requires-2
+is-within-requires-2 c κs = search needs
+
+same-length-2 : tie.Need-same-length-2
+same-length-2 c = search needs
+
+returns-2 : tie.Need-returns-2
+unfolding afterOffer
+returns-2 c =
+    let s = c .before .before .before .before .before .before .before .before .before in
+    let ws = s .args .ws .now in
+    let n = s .args .n in
+    let units = s .args .units in
+    let row = c .before .before .read-row in
+    refused ws n units (s .pre) Offered.WrongLength (answer-length (contents ws) n units (sound-contents ws (s .pre)) (stands-as (contents ws) n (c .before .before .before .before .before .before .standing-count .result) (c .before .before .before .before .before .before .standing-count .ensures) (c .before .before .before .before .before .is-within .result) (c .before .before .before .before .before .is-within .ensures) (not-false (c .before .before .before .before .before .is-within .result) (c .before .before .before .before .if1 .left))) (ap (λ q. within 1 units (q .longest)) (row .ensures .0) ∙ sym (c .before .is-within2 .ensures) ∙ not-true (c .before .is-within2 .result) (c .if2 .taken))) refl
+
+counter-requires : tie.Need-counter-requires
+counter-requires c κs = let s = c .before .before .before .before .before .before .before .before .before .before in sound-fitting (s .args .ws .now) (s .pre)
+
+fits-requires : tie.Need-fits-requires
+fits-requires c κs =
+    let s = c .before .before .before .before .before .before .before .before .before .before .before in
+    let ws = s .args .ws .now in
+    let n = s .args .n in
+    let units = s .args .units in
+    let row = c .before .before .before .before .read-row in
+    subst (RowReady (row .result)) (sym (c .counter .ensures)) (row-ready ws n (row .result) (s .pre) (stands-as (contents ws) n (c .before .before .before .before .before .before .before .before .standing-count .result) (c .before .before .before .before .before .before .before .before .standing-count .ensures) (c .before .before .before .before .before .before .before .is-within .result) (c .before .before .before .before .before .before .before .is-within .ensures) (not-false (c .before .before .before .before .before .before .before .is-within .result) (c .before .before .before .before .before .before .if1 .left))) (row .ensures .0) (row .ensures .1))
+
+same-length-3 : tie.Need-same-length-3
+same-length-3 c = search needs
+
+returns-3 : tie.Need-returns-3
+unfolding afterOffer
+returns-3 c =
+    let s = c .before .before .before .before .before .before .before .before .before .before .before .before .before in
+    let ws = s .args .ws .now in
+    let n = s .args .n in
+    let units = s .args .units in
+    let row = c .before .before .before .before .before .before .read-row in
+    refused ws n units (s .pre) Offered.NotFitting
+    (answer-unfit (contents ws) n units (sound-contents ws (s .pre)) (stands-as (contents ws) n (c .before .before .before .before .before .before .before .before .before .before .standing-count .result) (c .before .before .before .before .before .before .before .before .before .before .standing-count .ensures) (c .before .before .before .before .before .before .before .before .before .is-within .result) (c .before .before .before .before .before .before .before .before .before .is-within .ensures) (not-false (c .before .before .before .before .before .before .before .before .before .is-within .result) (c .before .before .before .before .before .before .before .before .if1 .left))) (ap (λ q. within 1 units (q .longest)) (row .ensures .0) ∙ sym (c .before .before .before .before .before .is-within2 .ensures) ∙ not-false (c .before .before .before .before .before .is-within2 .result) (c .before .before .before .before .if2 .left)) (ap₂ (λ q a. conforms q a (contents ws .counter)) (row .ensures .0) (row .ensures .1) ∙ (ap (conforms (askedIn (row .result)) (allowanceIn (row .result))) (sym (c .before .before .counter .ensures)) ∙ sym (c .before .fits2 .ensures) ∙ not-true (c .before .fits2 .result) (c .if3 .taken)))) refl
+
+waiting-count-requires : tie.Need-waiting-count-requires
+waiting-count-requires c κs = let s = c .before .before .before .before .before .before .before .before .before .before .before .before .before .before in sound-fitting (s .args .ws .now) (s .pre)
+
+same-length-4 : tie.Need-same-length-4
+same-length-4 c = search needs
+
+returns-4 : tie.Need-returns-4
+unfolding afterOffer
+returns-4 c =
+    let s = c .before .before .before .before .before .before .before .before .before .before .before .before .before .before .before .before in
+    let ws = s .args .ws .now in
+    let n = s .args .n in
+    let units = s .args .units in
+    let row = c .before .before .before .before .before .before .before .before .before .read-row in
+    refused ws n units (s .pre) Offered.StoreFull
+    (answer-full (contents ws) n units (sound-contents ws (s .pre)) (stands-as (contents ws) n (c .before .before .before .before .before .before .before .before .before .before .before .before .before .standing-count .result) (c .before .before .before .before .before .before .before .before .before .before .before .before .before .standing-count .ensures) (c .before .before .before .before .before .before .before .before .before .before .before .before .is-within .result) (c .before .before .before .before .before .before .before .before .before .before .before .before .is-within .ensures) (not-false (c .before .before .before .before .before .before .before .before .before .before .before .before .is-within .result) (c .before .before .before .before .before .before .before .before .before .before .before .if1 .left))) (ap (λ q. within 1 units (q .longest)) (row .ensures .0) ∙ sym (c .before .before .before .before .before .before .before .before .is-within2 .ensures) ∙ not-false (c .before .before .before .before .before .before .before .before .is-within2 .result) (c .before .before .before .before .before .before .before .if2 .left)) (ap₂ (λ q a. conforms q a (contents ws .counter)) (row .ensures .0) (row .ensures .1) ∙ (ap (conforms (askedIn (row .result)) (allowanceIn (row .result))) (sym (c .before .before .before .before .before .counter .ensures)) ∙ sym (c .before .before .before .before .fits2 .ensures) ∙ not-false (c .before .before .before .before .fits2 .result) (c .before .before .before .if3 .left)))
+    (omega (arith, c .before .waiting-count .ensures, c .if4 .taken))) refl
+
+accept-requires : tie.Need-accept-requires
+accept-requires c κs =
+    let s = c .before .before .before .before .before .before .before .before .before .before .before .before .before .before .before .before .before in
+    let ws = s .args .ws .now in
+    let n = s .args .n in
+    let units = s .args .units in
+    let row = c .before .before .before .before .before .before .before .before .before .before .read-row in
+    record {
+      sound-words = s .pre;
+      number-stands = stands-as (contents ws) n (c .before .before .before .before .before .before .before .before .before .before .before .before .before .before .standing-count .result) (c .before .before .before .before .before .before .before .before .before .before .before .before .before .before .standing-count .ensures) (c .before .before .before .before .before .before .before .before .before .before .before .before .before .is-within .result) (c .before .before .before .before .before .before .before .before .before .before .before .before .before .is-within .ensures) (not-false (c .before .before .before .before .before .before .before .before .before .before .before .before .before .is-within .result) (c .before .before .before .before .before .before .before .before .before .before .before .before .if1 .left));
+      row-asked = row .ensures .0;
+      row-allowance = row .ensures .1;
+      permitted = sym (c .before .before .before .before .before .before .before .before .before .is-within2 .ensures) ∙ not-false (c .before .before .before .before .before .before .before .before .before .is-within2 .result) (c .before .before .before .before .before .before .before .before .if2 .left);
+      fit = (ap (conforms (askedIn (row .result)) (allowanceIn (row .result))) (sym (c .before .before .before .before .before .before .counter .ensures)) ∙ sym (c .before .before .before .before .before .fits2 .ensures) ∙ not-false (c .before .before .before .before .before .fits2 .result) (c .before .before .before .before .if3 .left));
+      room = omega (arith, c .before .before .waiting-count .ensures, c .before .if4 .left);
+    }
+
+same-length-5 : tie.Need-same-length-5
+same-length-5 c = search needs
+
+returns-5 : tie.Need-returns-5
+returns-5 c =
+    let s = c .before .before .before .before .before .before .before .before .before .before .before .before .before .before .before .before .before .before .before .before in
+    let ws = s .args .ws .now in
+    let n = s .args .n in
+    let units = s .args .units in
+    let row = c .before .before .before .before .before .before .before .before .before .before .before .before .before .read-row in
+    let a = c .before .before .accept in
+    taken ws n units (s .pre) (a .last .0) (a .result) (a .ensures .0)
+    (answer-accepted (contents ws) n units (sound-contents ws (s .pre)) (stands-as (contents ws) n (c .before .before .before .before .before .before .before .before .before .before .before .before .before .before .before .before .before .standing-count .result) (c .before .before .before .before .before .before .before .before .before .before .before .before .before .before .before .before .before .standing-count .ensures) (c .before .before .before .before .before .before .before .before .before .before .before .before .before .before .before .before .is-within .result) (c .before .before .before .before .before .before .before .before .before .before .before .before .before .before .before .before .is-within .ensures) (not-false (c .before .before .before .before .before .before .before .before .before .before .before .before .before .before .before .before .is-within .result) (c .before .before .before .before .before .before .before .before .before .before .before .before .before .before .before .if1 .left))) (ap (λ q. within 1 units (q .longest)) (row .ensures .0) ∙ sym (c .before .before .before .before .before .before .before .before .before .before .before .before .is-within2 .ensures) ∙ not-false (c .before .before .before .before .before .before .before .before .before .before .before .before .is-within2 .result) (c .before .before .before .before .before .before .before .before .before .before .before .if2 .left)) (ap₂ (λ q a. conforms q a (contents ws .counter)) (row .ensures .0) (row .ensures .1) ∙ (ap (conforms (askedIn (row .result)) (allowanceIn (row .result))) (sym (c .before .before .before .before .before .before .before .before .before .counter .ensures)) ∙ sym (c .before .before .before .before .before .before .before .before .fits2 .ensures) ∙ not-false (c .before .before .before .before .before .before .before .before .fits2 .result) (c .before .before .before .before .before .before .before .if3 .left)))
+    (omega (arith, c .before .before .before .before .before .waiting-count .ensures, c .before .before .before .before .if4 .left)))
+    (a .ensures .1)
+
+pub offer-sound-spec : {M : Type 1} → statement M
+offer-sound-spec =
+    tie.close
+    (tie.spec
+    standing-count-requires
+    is-within-requires
+    same-length
+    returns
+    read-row-requires
+    is-within-requires-2
+    same-length-2
+    returns-2
+    counter-requires
+    fits-requires
+    same-length-3
+    returns-3
+    waiting-count-requires
+    same-length-4
+    returns-4
+    accept-requires
+    same-length-5
+    returns-5)

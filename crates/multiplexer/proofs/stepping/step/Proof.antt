@@ -1,0 +1,47 @@
+-- `multiplexer::stepping::step` meets its contract.
+use mathlib.Core.Path.{_≡_, refl, sym, _∙_}
+use mathlib.Core.Bool.{true, false}
+use borrow.Author.Tests.{not-true, not-false}
+use Rattle.meaning.specs.Step.{stepAnswer, afterStep}
+use Rattle.words.specs.Contents.{contents}
+use Rattle.words.specs.Sound.{soundWords}
+use Rattle.multiplexer.specs.Promised.{stepping, wordsStepped}
+use Rattle.multiplexer.proofs.Sounds.{promised, unchanged}
+use borrow.Author.Needs.{needs}
+use Rattle.multiplexer.proofs.stepping.step.Statement.{statement}
+use Rattle.multiplexer.proofs.stepping.step.Tie as tie
+
+is-sound-requires : tie.Need-is-sound-requires
+is-sound-requires c κs = search needs
+
+same-length : tie.Need-same-length
+same-length c = search needs
+
+returns : tie.Need-returns
+unfolding stepping wordsStepped
+returns c =
+    let s = c .before .before .before .before in
+    let i = c .before .is-sound in
+    let e : soundWords (s .args .ws .now) ≡ false = sym (i .ensures) ∙ not-true (i .result) (c .if1 .taken) in
+    (rw e refl, unchanged (s .args .ws .now) (afterStep (contents (s .args .ws .now)) (stepAnswer (contents (s .args .ws .now)))) e)
+
+step-sound-requires : tie.Need-step-sound-requires
+step-sound-requires c κs = let i = c .before .before .is-sound in sym (i .ensures) ∙ not-false (i .result) (c .before .if1 .left)
+
+same-length-2 : tie.Need-same-length-2
+same-length-2 c = search needs
+
+returns-2 : tie.Need-returns-2
+unfolding stepping wordsStepped
+returns-2 c =
+    let s = c .before .before .before .before .before .before .before .before in
+    let i = c .before .before .before .before .before .is-sound in
+    let ws = s .args .ws .now in
+    let m = c .before .before .step-sound in
+    let e : soundWords ws ≡ true = sym (i .ensures) ∙ not-false (i .result) (c .before .before .before .before .if1 .left) in
+    (m .ensures .0 ∙ rw e refl, promised ws (m .last .0) (afterStep (contents ws) (stepAnswer (contents ws))) e (m .ensures .1))
+
+pub step-spec : {M : Type 1} → statement M
+step-spec =
+    tie.close
+    (tie.spec is-sound-requires same-length returns step-sound-requires same-length-2 returns-2)

@@ -1,0 +1,2 @@
+-- What the promises of the public calls cite.
+pub mod Promised

@@ -1,0 +1,85 @@
+-- The public calls on words: "1 | the state is not sound" comes first, and changes nothing; on sound words the answer is that of
+-- document 01 on their contents, and the words afterwards are those of the contents afterwards.
+use Prim.Native.Nat.{ℕ, suc, _≤_, _<_}
+use mathlib.Core.Path.{_≡_}
+use mathlib.Core.Bool.{Bool, true, cond}
+use mathlib.Core.List.{List}
+use Rattle.meaning.specs.declared.Admitted.{Admitted}
+use Rattle.meaning.specs.declared.Offered.{Offered}
+use Rattle.meaning.specs.declared.Stepped.{Stepped}
+use lib.ListN.{length}
+use Rattle.laws.specs.Tests.{within}
+use Rattle.meaning.specs.Numbers.{Connection, mostWaiting, lastSlot}
+use Rattle.meaning.specs.Envelope.{Allowance, conforms, allowanceKept}
+use Rattle.meaning.specs.Box.{Box, connection, stands, waiting}
+use Rattle.meaning.specs.Calls.{allowance, admissionAnswer, afterAdmission, offerAnswer, afterOffer}
+use Rattle.meaning.specs.Step.{linkSent, stepAnswer, afterStep}
+use Rattle.words.specs.declared.parts.Row.{Row}
+use Rattle.words.specs.Contents.{contents, put}
+use Rattle.words.specs.Sound.{soundWords}
+use Rattle.words.specs.Changes.{withLink}
+
+-- The words of this box where these words were sound; else these words.
+unfoldable pub wordsAfter : List ℕ → Box → List ℕ
+wordsAfter ws box = cond (soundWords ws) (put box ws) ws
+
+-- Admission.
+unfoldable pub admission : List ℕ → Connection → Admitted
+admission ws c = cond (soundWords ws) (admissionAnswer (contents ws) c) Admitted.NotSound
+
+unfoldable pub wordsAdmitted : List ℕ → Connection → List ℕ
+wordsAdmitted ws c = wordsAfter ws (afterAdmission (contents ws) c (admissionAnswer (contents ws) c))
+
+-- Offering a packet.
+unfoldable pub offering : List ℕ → ℕ → ℕ → Offered
+offering ws n units = cond (soundWords ws) (offerAnswer (contents ws) n units) Offered.NotSound
+
+unfoldable pub wordsOffered : List ℕ → ℕ → ℕ → List ℕ
+wordsOffered ws n units = wordsAfter ws (afterOffer (contents ws) n units (offerAnswer (contents ws) n units))
+
+-- A step.
+unfoldable pub stepping : List ℕ → Stepped
+stepping ws = cond (soundWords ws) (stepAnswer (contents ws)) Stepped.NotSound
+
+unfoldable pub wordsStepped : List ℕ → List ℕ
+wordsStepped ws = wordsAfter ws (afterStep (contents ws) (stepAnswer (contents ws)))
+
+-- The words after a call that leaves this box: they are its words, they are sound, and they stand for it.
+pub record Leaves (ws after : List ℕ) (box : Box) : Type 0 where
+  pub words-are : after ≡ put box ws
+  pub still-sound : soundWords after ≡ true
+  pub stand-for : contents after ≡ box
+
+-- The box once a unit of the packet on the link is sent.
+unfoldable pub sentBox : Box → Box
+sentBox box = withLink box (linkSent (box .link))
+
+-- What a connection in a row asked for, and its allowance.
+abbrev pub askedIn : Row → Connection
+askedIn row = record { class = row .class; longest = row .longest; burst = row .burst; period = row .period }
+
+abbrev pub allowanceIn : Row → Allowance
+allowanceIn row = record { next = row .next; credit = row .credit }
+
+-- A row whose numbers are allowed, with an allowance in its range at this slot.
+pub record RowReady (row : Row) (slot : ℕ) : Type 0 where
+  pub burst-least : 1 ≤ row .burst
+  pub burst-most : row .burst ≤ 64
+  pub period-least : 1 ≤ row .period
+  pub period-most : row .period ≤ 4096
+  pub slot-most : slot ≤ lastSlot
+  pub kept : allowanceKept (askedIn row) slot (allowanceIn row) ≡ true
+
+-- A packet that is taken: its connection stands in this row, its length is permitted, it conforms, and there is room for it.
+pub record Acceptable (ws : List ℕ) (n units : ℕ) (row : Row) : Type 0 where
+  pub sound-words : soundWords ws ≡ true
+  pub number-stands : stands (contents ws) n ≡ true
+  pub row-asked : connection (contents ws) n ≡ askedIn row
+  pub row-allowance : allowance (contents ws) n ≡ allowanceIn row
+  pub permitted : within 1 units (row .longest) ≡ true
+  pub fit : conforms (askedIn row) (allowanceIn row) (contents ws .counter) ≡ true
+  pub room : length (waiting (contents ws)) < mostWaiting
+
+-- The box once it is taken.
+abbrev pub acceptedBox : Box → ℕ → ℕ → Box
+acceptedBox box n units = afterOffer box n units (Offered.Accepted (suc (box .accepted)))

@@ -1,0 +1,100 @@
+// Admission. Document 01, "Admission".
+use admission::Asked;
+use admission::Found;
+use admission::first_failing;
+use admission::rate;
+use meaning::Admitted;
+use words::numbers::is_within;
+use words::parts::Row;
+use words::parts::append_row;
+use words::parts::standing_count;
+use words::soundness::is_sound;
+ghost use mathlib.Core.Path.{_≡_};
+ghost use mathlib.Core.Bool.{true};
+ghost use Rattle.meaning.specs.Numbers.{connectionAllowed};
+ghost use Rattle.meaning.specs.Envelope.{full};
+ghost use Rattle.meaning.specs.Calls.{admissionAnswer, afterAdmission};
+ghost use Rattle.words.specs.Contents.{contents};
+ghost use Rattle.words.specs.Sound.{soundWords};
+ghost use Rattle.admission.specs.Asking.{connectionOf};
+ghost use Rattle.multiplexer.specs.Promised.{Leaves, askedIn, allowanceIn, admission as admissionIs, wordsAdmitted};
+
+// Whether the numbers of a connection are allowed: class, s, b and T in range, T dividing M.
+fn allowed(ws: &[u32], c: Asked) -> bool
+    requires { ⌜ soundWords (now ws) ≡ true ⌝ }
+    ensures { λ r. ⌜ r ≡ connectionAllowed (contents (now (ws .entry)) .settings) (connectionOf c) ⌝ }
+{
+    let cycle = ws[1];
+    let period = c.period;
+    if !is_within(1, c.class, ws[2]) {
+        return false;
+    }
+    if !is_within(1, c.longest, 64) {
+        return false;
+    }
+    if !is_within(1, c.burst, 64) {
+        return false;
+    }
+    if !is_within(1, period, cycle) {
+        return false;
+    }
+    cycle % period == 0
+}
+
+// An admission on sound words.
+pub fn admit_sound(ws: &mut [u32], c: Asked) -> Admitted
+    requires { ⌜ soundWords (now ws) ≡ true ⌝ }
+    ensures { λ r. ⌜ (r ≡ admissionAnswer (contents (now (ws .entry))) (connectionOf c)) × Leaves (now (ws .entry)) (now (ws .exit)) (afterAdmission (contents (now (ws .entry))) (connectionOf c) (admissionAnswer (contents (now (ws .entry))) (connectionOf c))) ⌝ }
+{
+    if !allowed(ws, c) {
+        return Admitted::OffRange;
+    }
+    let n = standing_count(ws);
+    if 32 <= n {
+        return Admitted::TableFull;
+    }
+    let sum = rate(ws, c);
+    if ws[1] < sum {
+        return Admitted::RateExceeded;
+    }
+    let found = first_failing(ws, c);
+    match found {
+        Found::FailsAt(t) => Admitted::ConditionFails(t),
+        Found::Holds => {
+            append_row(ws, fresh_row(c));
+            Admitted::Taken(n + 1)
+        }
+    }
+}
+
+// The row of a connection that is taken: what it asked for, with all its credits.
+fn fresh_row(c: Asked) -> Row
+    ensures { λ r. ⌜ (askedIn r ≡ connectionOf c) × (allowanceIn r ≡ full (connectionOf c)) ⌝ }
+{
+    Row {
+        class: c.class,
+        longest: c.longest,
+        burst: c.burst,
+        period: c.period,
+        next: 0,
+        credit: c.burst,
+    }
+}
+
+// Admission: "Admission: 1, 3, 4, 5, 6".
+pub fn admit(ws: &mut [u32], class: u32, longest: u32, burst: u32, period: u32) -> Admitted
+    ensures { λ r. ⌜ (r ≡ admissionIs (now (ws .entry)) (record { class = class; longest = longest; burst = burst; period = period })) × (now (ws .exit) ≡ wordsAdmitted (now (ws .entry)) (record { class = class; longest = longest; burst = burst; period = period })) ⌝ }
+{
+    if !is_sound(ws) {
+        return Admitted::NotSound;
+    }
+    admit_sound(
+        ws,
+        Asked {
+            class,
+            longest,
+            burst,
+            period,
+        },
+    )
+}

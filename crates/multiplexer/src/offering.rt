@@ -1,0 +1,95 @@
+// Offering a packet. Document 01, "Envelope" and "Queues and steps".
+use envelope::Allowance;
+use envelope::charge_record;
+use envelope::conforming;
+use meaning::Offered;
+use words::numbers::is_within;
+use words::numbers::wide;
+use words::parts::Row;
+use words::parts::accepted;
+use words::parts::count_accepted;
+use words::parts::counter;
+use words::parts::read_row;
+use words::parts::standing_count;
+use words::parts::waiting_count;
+use words::parts::write_allowance;
+use words::queues::join;
+use words::soundness::is_sound;
+ghost use mathlib.Core.Path.{_≡_};
+ghost use mathlib.Core.Bool.{true};
+ghost use Prim.Native.Nat.{suc, _+_, _≤_};
+ghost use Rattle.meaning.specs.Numbers.{factor, largestFactor};
+ghost use Rattle.meaning.specs.Envelope.{conforms};
+ghost use Rattle.words.specs.Places.{word};
+ghost use Rattle.meaning.specs.Calls.{offerAnswer, afterOffer};
+ghost use Rattle.words.specs.Contents.{contents};
+ghost use Rattle.words.specs.Sound.{soundWords};
+ghost use Rattle.words.specs.Changes.{Become};
+ghost use Rattle.multiplexer.specs.Promised.{Leaves, RowReady, Acceptable, offering, wordsOffered, acceptedBox};
+
+// The factor of a connection's class: the tag of the queue that its packets join.
+fn tag_of(ws: &[u32], class: u32) -> usize
+    requires { ⌜ (soundWords (now ws) ≡ true) × ((1 ≤ class) × (class ≤ word (now ws) 2)) ⌝ }
+    ensures { λ r. ⌜ (r ≡ factor (contents (now (ws .entry)) .settings) class) × (r ≤ largestFactor (contents (now (ws .entry)) .settings)) ⌝ }
+{
+    let at = wide(class);
+    wide(ws[2 + at])
+}
+
+// The packet is accepted: its connection is charged once, it joins the tail of its queue, and it is counted.
+fn accept(ws: &mut [u32], n: u32, units: u32, row: Row) -> u32
+    requires { ⌜ Acceptable (now ws) n units row ⌝ }
+    ensures { λ r. ⌜ (r ≡ suc (contents (now (ws .entry)) .accepted)) × Become (now (ws .entry)) (now (ws .exit)) (acceptedBox (contents (now (ws .entry))) n units) ⌝ }
+{
+    let slot = counter(ws);
+    let serial = accepted(ws) + 1;
+    let tag = tag_of(ws, row.class);
+    let charged = charge_record(row.next, row.credit, row.burst, row.period, slot);
+    write_allowance(ws, n, charged.next, charged.credit);
+    join(ws, tag, serial, n, units, slot);
+    count_accepted(ws);
+    serial
+}
+
+// Whether a packet of this connection conforms at this slot.
+fn fits(row: Row, slot: u32) -> bool
+    requires { ⌜ RowReady row slot ⌝ }
+    ensures { λ r. ⌜ r ≡ conforms (record { class = row .class; longest = row .longest; burst = row .burst; period = row .period }) (record { next = row .next; credit = row .credit }) slot ⌝ }
+{
+    let a = Allowance {
+        next: row.next,
+        credit: row.credit,
+    };
+    conforming(row.burst, row.period, a, slot)
+}
+
+// An offer on sound words.
+pub fn offer_sound(ws: &mut [u32], n: u32, units: u32) -> Offered
+    requires { ⌜ soundWords (now ws) ≡ true ⌝ }
+    ensures { λ r. ⌜ (r ≡ offerAnswer (contents (now (ws .entry))) n units) × Leaves (now (ws .entry)) (now (ws .exit)) (afterOffer (contents (now (ws .entry))) n units (offerAnswer (contents (now (ws .entry))) n units)) ⌝ }
+{
+    if !is_within(1, n, standing_count(ws)) {
+        return Offered::NoConnection;
+    }
+    let row = read_row(ws, n);
+    if !is_within(1, units, row.longest) {
+        return Offered::WrongLength;
+    }
+    if !fits(row, counter(ws)) {
+        return Offered::NotFitting;
+    }
+    if 1024 <= waiting_count(ws) {
+        return Offered::StoreFull;
+    }
+    Offered::Accepted(accept(ws, n, units, row))
+}
+
+// Offering a packet: "Offer: 1, 7, 8, 9, 10".
+pub fn offer(ws: &mut [u32], n: u32, units: u32) -> Offered
+    ensures { λ r. ⌜ (r ≡ offering (now (ws .entry)) n units) × (now (ws .exit) ≡ wordsOffered (now (ws .entry)) n units) ⌝ }
+{
+    if !is_sound(ws) {
+        return Offered::NotSound;
+    }
+    offer_sound(ws, n, units)
+}

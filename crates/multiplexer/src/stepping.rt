@@ -1,0 +1,116 @@
+// One step. Document 01, "Queues and steps", second paragraph.
+use meaning::Stepped;
+use words::parts::counter;
+use words::parts::raise_counter;
+use words::parts::read_link;
+use words::parts::write_link;
+use words::queues::load_link;
+use words::queues::tag_zero_waits;
+use words::soundness::is_sound;
+ghost use mathlib.Core.Path.{_≡_};
+ghost use mathlib.Core.Bool.{true, false, _&&_};
+ghost use Prim.Native.Nat.{suc, _<_, _≤_};
+ghost use Rattle.meaning.specs.Numbers.{lastSlot};
+ghost use Rattle.meaning.specs.Queues.{turnAt, tagZeroWaits};
+ghost use Rattle.meaning.specs.Step.{queuesTaken, turnDue, stepAnswer, afterStep, sentAnswer, linkTaken, moved};
+ghost use Rattle.words.specs.Contents.{contents};
+ghost use Rattle.words.specs.Sound.{Fitting, soundWords};
+ghost use Rattle.words.specs.Changes.{Become};
+ghost use Rattle.multiplexer.specs.Promised.{Leaves, stepping, wordsStepped, sentBox};
+
+// Whether the queues turn at the slot to which the counter is raised.
+fn turn_due(ws: &[u32]) -> bool
+    requires { ⌜ soundWords (now ws) ≡ true ⌝ }
+    ensures { λ r. ⌜ r ≡ turnDue (contents (now (ws .entry))) ⌝ }
+{
+    let next = counter_of(ws) + 1;
+    next % ws[0] == 0
+}
+
+// The counter of sound words.
+fn counter_of(ws: &[u32]) -> u32
+    requires { ⌜ soundWords (now ws) ≡ true ⌝ }
+    ensures { λ r. ⌜ (r ≡ contents (now (ws .entry)) .counter) × (r ≤ lastSlot) ⌝ }
+{
+    counter(ws)
+}
+
+// The step would turn the queues while tag 0 still has a waiting packet, once the step has taken one.
+fn blocked(ws: &[u32]) -> bool
+    requires { ⌜ soundWords (now ws) ≡ true ⌝ }
+    ensures { λ r. ⌜ r ≡ (turnDue (contents (now (ws .entry))) && tagZeroWaits (queuesTaken (contents (now (ws .entry)) .link) (contents (now (ws .entry)) .queues))) ⌝ }
+{
+    if !turn_due(ws) {
+        return false;
+    }
+    tag_zero_waits(ws)
+}
+
+// A unit of the packet on the link is sent: the answer, with the departure at the slot given.
+fn send_unit(ws: &mut [u32], departure: u32) -> Stepped
+    requires { ⌜ Fitting (now ws) ⌝ }
+    ensures { λ r. ⌜ (r ≡ sentAnswer departure (contents (now (ws .entry)) .link)) × Become (now (ws .entry)) (now (ws .exit)) (sentBox (contents (now (ws .entry)))) ⌝ }
+{
+    let link = read_link(ws);
+    let left = link.left;
+    if left == 0 {
+        return Stepped::Idle;
+    }
+    if left <= 1 {
+        write_link(ws, 0, 0, 0, 0, 0);
+        return Stepped::Departed {
+            serial: link.serial,
+            connection: link.connection,
+            arrival: link.arrival,
+            departure,
+        };
+    }
+    write_link(
+        ws,
+        left - 1,
+        link.serial,
+        link.connection,
+        link.units,
+        link.arrival,
+    );
+    Stepped::Sending {
+        serial: link.serial,
+        left: left - 1,
+    }
+}
+
+// The step of a sound box that is neither at its end nor blocked: take, send, raise the counter, turn if due.
+fn move_on(ws: &mut [u32]) -> Stepped
+    requires { ⌜ (soundWords (now ws) ≡ true) × ((contents (now ws) .counter < lastSlot) × ((turnDue (contents (now ws)) && tagZeroWaits (queuesTaken (contents (now ws) .link) (contents (now ws) .queues))) ≡ false)) ⌝ }
+    ensures { λ r. ⌜ (r ≡ sentAnswer (suc (contents (now (ws .entry)) .counter)) (linkTaken (contents (now (ws .entry)) .link) (contents (now (ws .entry)) .queues))) × Become (now (ws .entry)) (now (ws .exit)) (moved (contents (now (ws .entry)))) ⌝ }
+{
+    let departure = counter_of(ws) + 1;
+    load_link(ws);
+    let answer = send_unit(ws, departure);
+    raise_counter(ws);
+    answer
+}
+
+// A step on sound words.
+pub fn step_sound(ws: &mut [u32]) -> Stepped
+    requires { ⌜ soundWords (now ws) ≡ true ⌝ }
+    ensures { λ r. ⌜ (r ≡ stepAnswer (contents (now (ws .entry)))) × Leaves (now (ws .entry)) (now (ws .exit)) (afterStep (contents (now (ws .entry))) (stepAnswer (contents (now (ws .entry))))) ⌝ }
+{
+    if 4000000000 <= counter_of(ws) {
+        return Stepped::CounterEnded;
+    }
+    if blocked(ws) {
+        return Stepped::TurnBlocked;
+    }
+    move_on(ws)
+}
+
+// One step: "Step: 1, 12, 11".
+pub fn step(ws: &mut [u32]) -> Stepped
+    ensures { λ r. ⌜ (r ≡ stepping (now (ws .entry))) × (now (ws .exit) ≡ wordsStepped (now (ws .entry))) ⌝ }
+{
+    if !is_sound(ws) {
+        return Stepped::NotSound;
+    }
+    step_sound(ws)
+}
