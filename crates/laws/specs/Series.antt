@@ -68,9 +68,9 @@ series-same f g step start other (suc n) h =
     let first : f start ≡ g other = ap f (sym a) ∙ h 0 (omega arith) ∙ ap g b in
     ap (λ x. x ∷ series f step (start + step) n) first ∙ ap (λ l. g other ∷ l)
     (series-same f g step (start + step) (other + step) n (λ i k.
-      (let s : start + step + step * i ≡ start + step * suc i = omega arith in
-      let t : other + step + step * i ≡ other + step * suc i = omega arith in
-      ap f s ∙ h (suc i) (omega arith) ∙ ap g (sym t)))))
+    (let s : start + step + step * i ≡ start + step * suc i = omega arith in
+    let t : other + step + step * i ≡ other + step * suc i = omega arith in
+    ap f s ∙ h (suc i) (omega arith) ∙ ap g (sym t)))))
 
 -- a list is its own values, read one after another
 pub series-take : (l : List ℕ) (start n : ℕ) → start + n ≤ length l → series (λ i. getD l i 0) 1 start n ≡ take n (drop start l)
@@ -159,7 +159,7 @@ series-self {A} l d =
     (let f : ℕ → A = λ i. getD l i d in
     let n = length-series f 1 0 (length l) in
     ext-getD d (series f 1 0 (length l)) l n (λ i h.
-      (let e : 0 + 1 * i ≡ i = omega arith in getD-series f 1 0 (length l) i d (rw n at h) ∙ ap f e)))
+    (let e : 0 + 1 * i ≡ i = omega arith in getD-series f 1 0 (length l) i d (rw n at h) ∙ ap f e)))
 
 pub every-zeros : (n : ℕ) → every (λ w. eqb w 0) (replicate n 0) ≡ true
 unfolding every
@@ -197,12 +197,12 @@ sumBelow-zeros f m (suc n) h =
 pub sumBelow-turned : (f : ℕ → ℕ) (size turns : ℕ) → 0 < size → sumBelow (λ k. f ((turns + k) % size)) size ≡ sumBelow f size
 sumBelow-turned f size zero h =
     sumBelow-same (λ k. f ((0 + k) % size)) f size (λ k l.
-      (let e : 0 + k ≡ k = omega arith in ap (λ n. f (n % size)) e ∙ ap f (mod-eq-of-lt l)))
+    (let e : 0 + k ≡ k = omega arith in ap (λ n. f (n % size)) e ∙ ap f (mod-eq-of-lt l)))
 sumBelow-turned f size (suc turns) h =
     (let g : ℕ → ℕ = λ k. f ((turns + k) % size) in
     let a : sumBelow (λ k. f ((suc turns + k) % size)) size ≡ sumBelow (λ k. g (suc k)) size =
     sumBelow-same (λ k. f ((suc turns + k) % size)) (λ k. g (suc k)) size (λ k l.
-      (let e : suc turns + k ≡ turns + suc k = omega arith in ap (λ n. f (n % size)) e)) in
+    (let e : suc turns + k ≡ turns + suc k = omega arith in ap (λ n. f (n % size)) e)) in
     let z : turns + 0 ≡ turns = omega arith in
     let b : g size ≡ g 0 = ap f (add-mod-right turns size ∙ ap (λ n. n % size) (sym z)) in
     let s : sumBelow (λ k. g (suc k)) size ≡ sumBelow g size = omega (arith, sumBelow-shift g size, b) in
@@ -221,8 +221,14 @@ unfolding sumBelow
 length-flatten f zero = flatten-none f
 length-flatten f (suc n) =
     (let e : 0 + 1 * n ≡ n = omega arith in
-    rw (series-last f 1 0 n, e, flatten-append (series f 1 0 n) (f n ∷ []), flatten-one (f n), length-append (flatten (series f 1 0 n)) (f n),
-      length-flatten f n))
+    rw (
+      series-last f 1 0 n,
+      e,
+      flatten-append (series f 1 0 n) (f n ∷ []),
+      flatten-one (f n),
+      length-append (flatten (series f 1 0 n)) (f n),
+      length-flatten f n,
+    ))
 
 -- a test of what is left of a count: it fails at the value read, goes on after it, or is at its end
 module _ {A : Type 0} (test : A → Bool) (f : ℕ → A) (step start n i : ℕ) where
@@ -257,10 +263,11 @@ unfolding every series
 every-all test f step start zero h = refl
 every-all test f step start (suc n) h =
     (let z : start + step * 0 ≡ start = omega arith in
-    and-eq-true-iff (test (f start)) (every test (series f step (start + step) n)) .1
-    (sym (ap (λ k. test (f k)) z) ∙ h 0 (omega arith),
-    every-all test f step (start + step) n (λ i l.
-      (let e : start + step + step * i ≡ start + step * suc i = omega arith in ap (λ k. test (f k)) e ∙ h (suc i) (omega arith)))))
+    and-eq-true-iff (test (f start)) (every test (series f step (start + step) n)) .1 (
+      sym (ap (λ k. test (f k)) z) ∙ h 0 (omega arith),
+      every-all test f step (start + step) n (λ i l.
+          (let e : start + step + step * i ≡ start + step * suc i = omega arith in ap (λ k. test (f k)) e ∙ h (suc i) (omega arith))),
+    ))
 
 -- one value of the list is another
 pub series-set : {A : Type 0} (f g : ℕ → A) (n k : ℕ) (d : A) → k < n → ((i : ℕ) → i < n → (i ≡ k → ⊥) → g i ≡ f i)
@@ -270,13 +277,13 @@ series-set f g n k d h same =
     let lf = length-series f 1 0 n in
     let lg = length-series g 1 0 n in
     ext-getD d (series g 1 0 n) (set a k (g k)) (lg ∙ sym (length-set a k (g k) ∙ lf)) (λ i l.
-      (let e : 0 + 1 * i ≡ i = omega arith in
-      let m : i < n = rw lg at l in
-      getD-series g 1 0 n i d m ∙ ap g e ∙
-      elim (ℕ-discrete i k) [
-        yes q ↦ ap g q ∙ sym (ap (λ j. getD (set a k (g k)) j d) q ∙ getD-set-same a k (g k) d (rw lf h))
+    (let e : 0 + 1 * i ≡ i = omega arith in
+    let m : i < n = rw lg at l in
+    getD-series g 1 0 n i d m ∙ ap g e ∙
+    elim (ℕ-discrete i k) [
+      | yes q ↦ ap g q ∙ sym (ap (λ j. getD (set a k (g k)) j d) q ∙ getD-set-same a k (g k) d (rw lf h))
       | no q ↦ same i m q ∙ sym (getD-set-other a k i (g k) d q ∙ getD-series f 1 0 n i d m ∙ ap f e)
-      ])))
+    ])))
 
 -- a list by any step is one by single steps
 pub series-unit : {A : Type 0} (f : ℕ → A) (step start n : ℕ) (d : A) → series f step start n ≡ series (λ i. f (start + step * i)) 1 0 n
@@ -285,5 +292,5 @@ series-unit {A} f step start n d =
     let a = length-series f step start n in
     let b = length-series g 1 0 n in
     ext-getD d (series f step start n) (series g 1 0 n) (a ∙ sym b) (λ i h.
-      (let e : 0 + 1 * i ≡ i = omega arith in
-      getD-series f step start n i d (rw a at h) ∙ sym (getD-series g 1 0 n i d (rw a at h) ∙ ap g e))))
+    (let e : 0 + 1 * i ≡ i = omega arith in
+    getD-series f step start n i d (rw a at h) ∙ sym (getD-series g 1 0 n i d (rw a at h) ∙ ap g e))))

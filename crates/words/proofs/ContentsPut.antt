@@ -159,8 +159,14 @@ below-read box ws k zero h = refl
 below-read box ws k (suc p) h =
     (let q = getD (byPlace box) p [] in
     let l : p < length (byPlace box) = omega (arith, length-places box) in
-    rw (take-suc (byPlace box) p [] l, flatten-append (take p (byPlace box)) (q ∷ []), append-nil q,
-      length-append (flatten (take p (byPlace box))) q, length-read box ws k p h, below-read box ws k p (omega arith)))
+    rw (
+      take-suc (byPlace box) p [] l,
+      flatten-append (take p (byPlace box)) (q ∷ []),
+      append-nil q,
+      length-append (flatten (take p (byPlace box))) q,
+      length-read box ws k p h,
+      below-read box ws k p (omega arith),
+    ))
 
 -- the words of some queues
 flat : List (List Packet) → List ℕ
@@ -289,11 +295,12 @@ unused-put box ws k =
     let b = k .at-12 ∙ append-assoc rows (replicate (192 - length rows) 0) (drop 204 ws) in
     let m : length rows ≡ 6 * length (box .standing) = length-chunks standingWords 6 standing-size (box .standing) in
     rw (p, n, ← m)
-    (and-eq-true-iff (zeros ws (3 + length fs) (8 - length fs)) (zeros ws (12 + length rows) (192 - length rows)) .1
-    (zeros-read ws (drop 11 ws) (3 + length fs) (8 - length fs)
-    (after-part ws fs (replicate (8 - length fs) 0 ++ drop 11 ws) 3 (length fs) a refl),
-    zeros-read ws (drop 204 ws) (12 + length rows) (192 - length rows)
-    (after-part ws rows (replicate (192 - length rows) 0 ++ drop 204 ws) 12 (length rows) b refl))))
+    (and-eq-true-iff (zeros ws (3 + length fs) (8 - length fs)) (zeros ws (12 + length rows) (192 - length rows)) .1 (
+      zeros-read ws (drop 11 ws) (3 + length fs) (8 - length fs)
+          (after-part ws fs (replicate (8 - length fs) 0 ++ drop 11 ws) 3 (length fs) a refl),
+      zeros-read ws (drop 204 ws) (12 + length rows) (192 - length rows)
+          (after-part ws rows (replicate (192 - length rows) 0 ++ drop 204 ws) 12 (length rows) b refl),
+    )))
 
 link-put : (l : Link) (ws r : List ℕ) → linkKept l ≡ true → drop 206 ws ≡ linkWords l ++ r → linkClear ws ≡ true
 unfolding linkWords linkClear linkKept
@@ -311,9 +318,9 @@ untagged-put box ws kept k =
     let f : ℕ → ℕ = λ t. word ws (211 + placeOf (turnsOf box) t) in
     rw (settings-read box ws k, turns-read box ws k)
     (ap (every (λ w. eqb w 0)) (series-same f (λ _. 0) 1 (suc r) 0 (63 - r) (λ i h.
-      (let t = suc r + 1 * i in
-      sym (length-queue ws (placeOf (turnsOf box) t)) ∙ ap length (tag-read box ws k t (omega (arith, kept .largest))) ∙
-      ap length (List·getD-eq-default (box .queues) [] {n = t} (omega (arith, kept .tags)))))) ∙
+    (let t = suc r + 1 * i in
+    sym (length-queue ws (placeOf (turnsOf box) t)) ∙ ap length (tag-read box ws k t (omega (arith, kept .largest))) ∙
+    ap length (List·getD-eq-default (box .queues) [] {n = t} (omega (arith, kept .tags)))))) ∙
     ap (every (λ w. eqb w 0)) (zeros-series 0 (63 - r)) ∙ every-zeros (63 - r)))
 
 pub put-unused : (box : Box) (ws : List ℕ) → Puttable box → unusedClear (put box ws) ≡ true

@@ -84,11 +84,14 @@ sound-put box ws e h =
     let n : 4371 ≤ length v = omega (arith, length-put box ws k (f .waiting-most) h) in
     let u = unusedClear v in
     let l = linkClear v in
-    and-eq-true-iff (leb boxWords (length v) && u && l && untaggedEmpty v) (sound (contents v)) .1
-    (and-eq-true-iff (leb boxWords (length v) && u && l) (untaggedEmpty v) .1
-    (and-eq-true-iff (leb boxWords (length v) && u) l .1
-    (and-eq-true-iff (leb boxWords (length v)) u .1 (le-leb _ _ n, put-unused box ws k), put-link box ws k), put-untagged box ws k),
-    ap sound (contents-put box ws k) ∙ e))
+    and-eq-true-iff (leb boxWords (length v) && u && l && untaggedEmpty v) (sound (contents v)) .1 (
+      and-eq-true-iff (leb boxWords (length v) && u && l) (untaggedEmpty v) .1 (
+        and-eq-true-iff (leb boxWords (length v) && u) l .1
+            (and-eq-true-iff (leb boxWords (length v)) u .1 (le-leb _ _ n, put-unused box ws k), put-link box ws k),
+        put-untagged box ws k,
+      ),
+      ap sound (contents-put box ws k) ∙ e,
+    ))
 
 -- sound words are fitting
 pub sound-fitting : (ws : List ℕ) → soundWords ws ≡ true → Fitting ws

@@ -58,8 +58,8 @@ module _ (ws up placed : List ℕ) (tag : ℕ) (p : Packet) (k : Fitting ws) (ta
         count = (let c = word-same placed (211 + P) v (211 + P) (omega (arith, k .enough)) refl in let d = same (211 + P) (omega arith) in omega arith);
         before = λ i h q. word-other placed (211 + P) v i (λ e. omega arith) ∙ same i (omega arith);
         later = λ i j a b e.
-          word-other placed (211 + P) v j (λ q. omega arith) ∙ w .above j (omega arith) ∙
-          (let q : j ≡ i + 4 = omega arith in ap (λ n. word up n) q) ∙ u .moved i (omega arith) (omega arith);
+            word-other placed (211 + P) v j (λ q. omega arith) ∙ w .above j (omega arith) ∙
+            (let q : j ≡ i + 4 = omega arith in ap (λ n. word up n) q) ∙ u .moved i (omega arith) (omega arith);
       })
 
   joined-queue : queueAt after (placeOf (turnsAt ws) tag) ≡ queueAt ws (placeOf (turnsAt ws) tag) ++ (p ∷ [])
@@ -79,12 +79,13 @@ module _ (ws up placed : List ℕ) (tag : ℕ) (p : Packet) (k : Fitting ws) (ta
       (series-last (packetAt after) 4 (startOf ws P) n ∙
       ap (λ l. l ++ (packetAt after (startOf ws P + 4 * n) ∷ []))
       (series-same (packetAt after) (packetAt ws) 4 (startOf ws P) (startOf ws P) n (λ i h.
-        packet-same ws after (startOf ws P + 4 * i) (startOf ws P + 4 * i) (λ j g. stays (startOf ws P + 4 * i + j) (omega arith) (omega arith)))) ∙
+      packet-same ws after (startOf ws P + 4 * i) (startOf ws P + 4 * i) (λ j g. stays (startOf ws P + 4 * i + j) (omega arith) (omega arith)))) ∙
       ap (λ x. series (packetAt ws) 4 (startOf ws P) n ++ (x ∷ []))
       (ap (packetAt after) e ∙ packet-same placed after at at (λ j g. unset (at + j) (omega arith)) ∙ w .packet)))
     where
       unset : (i : ℕ) → 275 ≤ i → word after i ≡ word placed i
       unset i h = stored i h
+
       stays : (i : ℕ) → 275 ≤ i → i < at → word after i ≡ word ws i
       stays i h l = stored i h ∙ w .below i l ∙ u .below i l
 
@@ -99,7 +100,7 @@ module _ (ws up placed : List ℕ) (tag : ℕ) (p : Packet) (k : Fitting ws) (ta
       join-sets tag p (contents ws .queues) (omega (arith, queue-count ws)) ∙
       ap (λ l. set (contents ws .queues) tag (l ++ (p ∷ []))) (queue-tagged-at ws tag tagged) ∙ ap (set (contents ws .queues) tag) (sym joined-queue) in
       rw q (shifted-become ws after tag 0 1 k tagged s (omega arith) (λ i h.
-        word-other placed (211 + P) v i (λ e. omega arith) ∙ w .above i (omega (arith, lengths-most ws P 64 small, lengths-next ws P, ap (lengthsBelow ws) (one-more P))) ∙ u .above i (omega arith))))
+      word-other placed (211 + P) v i (λ e. omega arith) ∙ w .above i (omega (arith, lengths-most ws P 64 small, lengths-next ws P, ap (lengthsBelow ws) (one-more P))) ∙ u .above i (omega arith))))
     where
       one-more : (n : ℕ) → n + 1 ≡ suc n
       one-more n = omega arith
@@ -129,8 +130,8 @@ module _ (ws down : List ℕ) (tag : ℕ) (k : Fitting ws) (tagged : tag ≤ lar
         count = (let c = word-same down (211 + P) v (211 + P) (omega (arith, k .enough, u .same-length)) refl in let d = u .below (211 + P) (omega arith) in omega arith);
         before = λ i h q. word-other down (211 + P) v i (λ e. omega arith) ∙ u .below i (omega arith);
         later = λ i j a b e.
-          word-other down (211 + P) v j (λ q. omega arith) ∙ u .moved j (omega arith) (omega arith) ∙
-          (let q : j + 4 ≡ i = omega arith in ap (λ n. word ws n) q);
+            word-other down (211 + P) v j (λ q. omega arith) ∙ u .moved j (omega arith) (omega arith) ∙
+            (let q : j + 4 ≡ i = omega arith in ap (λ n. word ws n) q);
       })
 
   behead-queue : queueAt beheaded (placeOf (turnsAt ws) tag) ≡ drop 1 (queueAt ws (placeOf (turnsAt ws) tag))
@@ -147,9 +148,9 @@ module _ (ws down : List ℕ) (tag : ℕ) (k : Fitting ws) (tagged : tag ≤ lar
       let l = lengths-most ws P 64 small in
       rw (c, b)
       (series-same (packetAt beheaded) (packetAt ws) 4 (startOf ws P) (startOf ws P + 4) (n - 1) (λ i h.
-        packet-same ws beheaded (startOf ws P + 4 * i) (startOf ws P + 4 + 4 * i) (λ j g.
-          unstored (startOf ws P + 4 * i + j) (omega arith) ∙ u .moved (startOf ws P + 4 * i + j) (omega arith) (omega arith) ∙
-          (let q : startOf ws P + 4 * i + j + 4 ≡ startOf ws P + 4 + 4 * i + j = omega arith in ap (λ x. word ws x) q))) ∙
+      packet-same ws beheaded (startOf ws P + 4 * i) (startOf ws P + 4 + 4 * i) (λ j g.
+      unstored (startOf ws P + 4 * i + j) (omega arith) ∙ u .moved (startOf ws P + 4 * i + j) (omega arith) (omega arith) ∙
+      (let q : startOf ws P + 4 * i + j + 4 ≡ startOf ws P + 4 + 4 * i + j = omega arith in ap (λ x. word ws x) q))) ∙
       sym (ap (λ x. drop 1 (series (packetAt ws) 4 (startOf ws P) x)) m ∙ tail-series (packetAt ws) (startOf ws P) (n - 1))))
 
   pub behead-become : Become ws (set down (211 + placeOf (turnsAt ws) tag) v)
@@ -163,4 +164,4 @@ module _ (ws down : List ℕ) (tag : ℕ) (k : Fitting ws) (tagged : tag ≤ lar
       let l = lengths-most ws P 64 small in
       let q : drop 1 (getD (contents ws .queues) tag []) ≡ queueAt beheaded P = ap (drop 1) (queue-tagged-at ws tag tagged) ∙ sym behead-queue in
       rw q (shifted-become ws beheaded tag 1 0 k tagged s (omega (arith, k .total)) (λ i h.
-        unstored i (omega arith) ∙ u .above i (omega arith) (omega arith))))
+      unstored i (omega arith) ∙ u .above i (omega arith) (omega arith))))

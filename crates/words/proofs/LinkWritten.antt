@@ -30,9 +30,9 @@ link-written ws after left s n u a k w f =
     (let l : word after 206 ≡ left = w .below 206 (omega arith) ∙ word-same ws 206 left 206 (omega (arith, k .enough)) refl in
     ⊎-elim
     (λ (q : eqb (word after 206) 0 ≡ true).
-      (let z = f (sym l ∙ eqb-true (word after 206) 0 q) in
-      ap (λ b. cond b (zeros after 207 4) true) q ∙
-      four-zeros after (ap (λ p. p .serial) (w .packet) ∙ z .0) (ap (λ p. p .connection) (w .packet) ∙ z .1) (ap (λ p. p .units) (w .packet) ∙ z .2)
-      (ap (λ p. p .arrival) (w .packet) ∙ z .3)))
+    (let z = f (sym l ∙ eqb-true (word after 206) 0 q) in
+    ap (λ b. cond b (zeros after 207 4) true) q ∙
+    four-zeros after (ap (λ p. p .serial) (w .packet) ∙ z .0) (ap (λ p. p .connection) (w .packet) ∙ z .1) (ap (λ p. p .units) (w .packet) ∙ z .2)
+    (ap (λ p. p .arrival) (w .packet) ∙ z .3)))
     (λ (q : eqb (word after 206) 0 ≡ false). ap (λ b. cond b (zeros after 207 4) true) q)
     (bool-cases (eqb (word after 206) 0)))

@@ -36,10 +36,10 @@ up-next ws after to i k e h l u =
       same-length = length-set after (k + 4) (word after k) ∙ u .same-length;
       below = λ j b. word-other after (k + 4) (word after k) j (λ q. omega arith) ∙ u .below j (omega arith);
       moved = λ j a b. elim (decLe j k) [
-        yes c ↦
+        | yes c ↦
             word-same after (k + 4) (word after k) (j + 4) (omega (arith, u .same-length)) (omega arith) ∙ u .below k (omega arith) ∙
             (let q : k ≡ j = omega arith in ap (λ n. word ws n) q)
-      | no c ↦ word-other after (k + 4) (word after k) (j + 4) (λ q. omega arith) ∙ u .moved j (omega arith) b
+        | no c ↦ word-other after (k + 4) (word after k) (j + 4) (λ q. omega arith) ∙ u .moved j (omega arith) b
       ];
       above = λ j b. word-other after (k + 4) (word after k) j (λ q. omega arith) ∙ u .above j b;
     }
@@ -71,10 +71,10 @@ down-next ws after from i h l u =
       same-length = length-set after i (word after (i + 4)) ∙ u .same-length;
       below = λ j b. word-other after i (word after (i + 4)) j (λ q. omega arith) ∙ u .below j b;
       moved = λ j a b. elim (decLe i j) [
-        yes c ↦
+        | yes c ↦
             word-same after i (word after (i + 4)) j (omega (arith, u .same-length)) (omega arith) ∙ u .above (i + 4) (omega arith) ∙
             (let q : i + 4 ≡ j + 4 = omega arith in ap (λ n. word ws n) q)
-      | no c ↦ word-other after i (word after (i + 4)) j (λ q. omega arith) ∙ u .moved j a (omega arith)
+        | no c ↦ word-other after i (word after (i + 4)) j (λ q. omega arith) ∙ u .moved j a (omega arith)
       ];
       above = λ j b. word-other after i (word after (i + 4)) j (λ q. omega arith) ∙ u .above j (omega arith);
     }
@@ -91,7 +91,7 @@ down-end ws after from to i h e u =
 -- four stores write a packet
 pub packet-stored : (ws : List ℕ) (at serial connection units arrival : ℕ) → at + 4 ≤ length ws
     → PacketPut ws (set (set (set (set ws at serial) (at + 1) connection) (at + 2) units) (at + 3) arrival) at
-      (record { serial = serial; connection = connection; units = units; arrival = arrival })
+    (record { serial = serial; connection = connection; units = units; arrival = arrival })
 unfolding packetAt
 packet-stored ws at s n u a h =
     (let w1 = set ws at s in

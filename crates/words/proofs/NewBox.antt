@@ -78,9 +78,9 @@ image-new D M fs h =
 -- what opening writes is a new box
 pub opening-writes : (D M : ℕ) (fs ws cleared-words : List ℕ) → length fs ≤ 8 → cleared-words ≡ cleared 275 ws
     → take 3 (set (set (set cleared-words 0 D) 1 M) 2 (length fs)) ++ fs ++ drop (3 + length fs) (set (set (set cleared-words 0 D) 1 M) 2 (length fs))
-      ≡ put (newBox (asked D M fs)) ws
+    ≡ put (newBox (asked D M fs)) ws
 unfolding put cleared
-opening-writes D M fs ws l h e = 
+opening-writes D M fs ws l h e =
     (let k = length fs in
     let R = drop 275 ws in
     let z : List ℕ = replicate 272 0 in

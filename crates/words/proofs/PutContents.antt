@@ -82,9 +82,16 @@ queues-next ws p h =
     let n = lengthsBelow ws p in
     let m = word ws (211 + p) in
     let k : 4 * n + 4 * m ≡ 4 * (n + m) = omega arith in
-    rw (series-last (queueAt ws) 1 0 p, e, flatten-append qs (queueAt ws p ∷ []), append-nil (queueAt ws p),
-      map-append packetWords (flatten qs) (queueAt ws p), flatten-append (map packetWords (flatten qs)) (map packetWords (queueAt ws p)),
-      h, queue-words ws p)
+    rw (
+      series-last (queueAt ws) 1 0 p,
+      e,
+      flatten-append qs (queueAt ws p ∷ []),
+      append-nil (queueAt ws p),
+      map-append packetWords (flatten qs) (queueAt ws p),
+      flatten-append (map packetWords (flatten qs)) (map packetWords (queueAt ws p)),
+      h,
+      queue-words ws p,
+    )
     (sym (sym (ap (λ x. series w 1 275 x) k) ∙ series-append w 1 275 (4 * n) (4 * m) ∙
     ap (λ x. series w 1 275 (4 * n) ++ series w 1 x (4 * m)) (start-at ws p))))
 
@@ -115,9 +122,9 @@ queue-tagged ws e h p l =
     let f : ℕ → List Packet = λ k. queueAt ws (placeOf (turnsAt ws) k) in
     let q : 0 + 1 * t ≡ t = omega arith in
     elim (decLe t r) [
-      yes k ↦
+      | yes k ↦
           getD-series f 1 0 (suc r) t [] (omega arith) ∙ ap f q ∙ ap (queueAt ws) (place-of-tag (turnsAt ws) p l)
-    | no k ↦
+      | no k ↦
           List·getD-eq-default (series f 1 0 (suc r)) [] (rw (length-series f 1 0 (suc r)) (omega arith)) ∙
           sym (queue-untagged ws p
           (sym (ap (λ x. word ws (211 + x)) (place-of-tag (turnsAt ws) p l)) ∙ untagged-zero ws e t (omega arith) (tag-below (turnsAt ws) p)))
@@ -149,8 +156,8 @@ unfolding queueAt
 lengths-words ws =
     map-series length (queueAt ws) 1 0 64 ∙
     series-same (λ p. length (queueAt ws p)) (λ j. word ws j) 1 0 211 64 (λ i l.
-      (let e : 211 + (0 + 1 * i) ≡ 211 + 1 * i = omega arith in
-      length-series (packetAt ws) 4 (startOf ws (0 + 1 * i)) (word ws (211 + (0 + 1 * i))) ∙ ap (λ x. word ws x) e))
+    (let e : 211 + (0 + 1 * i) ≡ 211 + 1 * i = omega arith in
+    length-series (packetAt ws) 4 (startOf ws (0 + 1 * i)) (word ws (211 + (0 + 1 * i))) ∙ ap (λ x. word ws x) e))
 
 rows-words : (ws : List ℕ) → Fitting ws → padded 192 (flatten (map standingWords (standings ws))) ≡ series (λ j. word ws j) 1 12 192
 unfolding standings
@@ -193,18 +200,18 @@ image-contents ws k =
     (let w : ℕ → ℕ = λ j. word ws j in
     let places = by-place ws (k .untagged) (k .largest) in
     append-same (first-words ws) (
-      append-same (factors-words ws k) (
-        append-same (ap (λ n. n ∷ []) (row-count ws) ∙ one-word w) (
-          append-same (rows-words ws k) (
-            append-same (two-words w) (
-              append-same (link-words ws (k .link-clear)) (
-                append-same (ap (map length) places ∙ lengths-words ws)
-                    (ap (λ qs. flatten (map packetWords (flatten qs))) places ∙ queues-words ws 64)
-              )
-            )
-          )
-        )
-      )
+    append-same (factors-words ws k) (
+    append-same (ap (λ n. n ∷ []) (row-count ws) ∙ one-word w) (
+    append-same (rows-words ws k) (
+    append-same (two-words w) (
+    append-same (link-words ws (k .link-clear)) (
+    append-same (ap (map length) places ∙ lengths-words ws)
+    (ap (λ qs. flatten (map packetWords (flatten qs))) places ∙ queues-words ws 64)
+    )
+    )
+    )
+    )
+    )
     ) ∙
     parts w (4 * lengthsBelow ws 64))
 

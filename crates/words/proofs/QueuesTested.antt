@@ -57,7 +57,7 @@ packets-test box rank before (p ∷ q) f =
 -- the clauses on all queues in words, by their tags
 pub record QueuesFacts (ws : List ℕ) : Type 0 where
   pub tagged : (k : ℕ) → k ≤ largestFactor (settingsAt ws) → k < 64
-    → QueueFacts (contents ws) (turnsAt ws + k) 0 (queueAt ws (placeOf (turnsAt ws) k))
+      → QueueFacts (contents ws) (turnsAt ws + k) 0 (queueAt ws (placeOf (turnsAt ws) k))
   pub untagged : (k : ℕ) → largestFactor (settingsAt ws) < k → k < 64 → word ws (211 + placeOf (turnsAt ws) k) ≡ 0
 
 pub queues-facts : (ws : List ℕ) → queuesTested ws ≡ true → QueuesFacts ws
@@ -65,13 +65,13 @@ unfolding queuesTested queueFits
 queues-facts ws e =
     record {
       tagged = λ k h l.
-        packets-facts (contents ws) (turnsAt ws + k) 0 (queueAt ws (placeOf (turnsAt ws) k))
-        (sym (ap (λ b. cond b (packetsFit (contents ws) (turnsAt ws + k) 0 (queueAt ws (placeOf (turnsAt ws) k))) (eqb (length (queueAt ws (placeOf (turnsAt ws) k))) 0))
-        (le-leb k (largestFactor (settingsAt ws)) h)) ∙ fits k l);
+          packets-facts (contents ws) (turnsAt ws + k) 0 (queueAt ws (placeOf (turnsAt ws) k))
+          (sym (ap (λ b. cond b (packetsFit (contents ws) (turnsAt ws + k) 0 (queueAt ws (placeOf (turnsAt ws) k))) (eqb (length (queueAt ws (placeOf (turnsAt ws) k))) 0))
+          (le-leb k (largestFactor (settingsAt ws)) h)) ∙ fits k l);
       untagged = λ k h l.
-        sym (length-queue ws (placeOf (turnsAt ws) k)) ∙ eqb-true _ 0
-        (sym (ap (λ b. cond b (packetsFit (contents ws) (turnsAt ws + k) 0 (queueAt ws (placeOf (turnsAt ws) k))) (eqb (length (queueAt ws (placeOf (turnsAt ws) k))) 0))
-        (lt-leb k (largestFactor (settingsAt ws)) h)) ∙ fits k l);
+          sym (length-queue ws (placeOf (turnsAt ws) k)) ∙ eqb-true _ 0
+          (sym (ap (λ b. cond b (packetsFit (contents ws) (turnsAt ws + k) 0 (queueAt ws (placeOf (turnsAt ws) k))) (eqb (length (queueAt ws (placeOf (turnsAt ws) k))) 0))
+          (lt-leb k (largestFactor (settingsAt ws)) h)) ∙ fits k l);
     }
   where
     fits : (k : ℕ) → k < 64 → queueFits ws k (queueAt ws (placeOf (turnsAt ws) k)) ≡ true
@@ -83,18 +83,18 @@ pub queues-test : (ws : List ℕ) → QueuesFacts ws → queuesTested ws ≡ tru
 unfolding queuesTested queueFits
 queues-test ws f =
     everyBelow-all (λ p. queueFits ws (tagOf (turnsAt ws) p) (queueAt ws p)) 64 (λ p h.
-      ap (λ x. queueFits ws (tagOf (turnsAt ws) p) (queueAt ws x)) (sym (place-of-tag (turnsAt ws) p h)) ∙
-      fits (tagOf (turnsAt ws) p) (tag-below (turnsAt ws) p))
+    ap (λ x. queueFits ws (tagOf (turnsAt ws) p) (queueAt ws x)) (sym (place-of-tag (turnsAt ws) p h)) ∙
+    fits (tagOf (turnsAt ws) p) (tag-below (turnsAt ws) p))
   where
     fits : (k : ℕ) → k < 64 → queueFits ws k (queueAt ws (placeOf (turnsAt ws) k)) ≡ true
     fits k l =
         (let q = queueAt ws (placeOf (turnsAt ws) k) in
         let r = largestFactor (settingsAt ws) in
         elim (decLe k r) [
-          yes h ↦
+          | yes h ↦
               ap (λ b. cond b (packetsFit (contents ws) (turnsAt ws + k) 0 q) (eqb (length q) 0)) (le-leb k r h) ∙
               packets-test (contents ws) (turnsAt ws + k) 0 q (f .tagged k h l)
-        | no h ↦
+          | no h ↦
               ap (λ b. cond b (packetsFit (contents ws) (turnsAt ws + k) 0 q) (eqb (length q) 0)) (lt-leb k r (omega arith)) ∙
               eq-eqb (length q) 0 (length-queue ws (placeOf (turnsAt ws) k) ∙ f .untagged k (omega arith) l)
         ])
@@ -106,9 +106,10 @@ pub in-queues-all : (box : Box) (f : ℕ → List Packet) (tag n : ℕ)
 unfolding inTheirQueues series
 in-queues-all box f tag zero h = refl
 in-queues-all box f tag (suc n) h =
-    and-eq-true-iff (every (λ p. eqb (rankIn box p) (box .counter / box .settings .interval + tag)) (f tag)) (inTheirQueues box (suc tag) (series f 1 (tag + 1) n)) .1
-    (h tag (omega arith) (omega arith),
-    ap (λ k. inTheirQueues box (suc tag) (series f 1 k n)) (add-one tag) ∙ in-queues-all box f (suc tag) n (λ k a b. h k (omega arith) (omega arith)))
+    and-eq-true-iff (every (λ p. eqb (rankIn box p) (box .counter / box .settings .interval + tag)) (f tag)) (inTheirQueues box (suc tag) (series f 1 (tag + 1) n)) .1 (
+      h tag (omega arith) (omega arith),
+      ap (λ k. inTheirQueues box (suc tag) (series f 1 k n)) (add-one tag) ∙ in-queues-all box f (suc tag) n (λ k a b. h k (omega arith) (omega arith)),
+    )
 
 pub in-queues-at : (box : Box) (f : ℕ → List Packet) (tag n : ℕ) → inTheirQueues box tag (series f 1 tag n) ≡ true
     → (k : ℕ) → tag ≤ k → k < tag + n → every (λ p. eqb (rankIn box p) (box .counter / box .settings .interval + k)) (f k) ≡ true
@@ -117,8 +118,8 @@ in-queues-at box f tag zero e k a b = absurd (omega arith)
 in-queues-at box f tag (suc n) e k a b =
     (let h = and-eq-true-iff (every (λ p. eqb (rankIn box p) (box .counter / box .settings .interval + tag)) (f tag)) (inTheirQueues box (suc tag) (series f 1 (tag + 1) n)) .0 e in
     elim (decLe k tag) [
-      yes l ↦ first (omega arith) (h .0)
-    | no l ↦ in-queues-at box f (suc tag) n (sym (ap (λ k. inTheirQueues box (suc tag) (series f 1 k n)) (add-one tag)) ∙ h .1) k (omega arith) (omega arith)
+      | yes l ↦ first (omega arith) (h .0)
+      | no l ↦ in-queues-at box f (suc tag) n (sym (ap (λ k. inTheirQueues box (suc tag) (series f 1 k n)) (add-one tag)) ∙ h .1) k (omega arith) (omega arith)
     ])
   where
     first : k ≡ tag → every (λ p. eqb (rankIn box p) (box .counter / box .settings .interval + tag)) (f tag) ≡ true

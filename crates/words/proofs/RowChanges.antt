@@ -46,7 +46,7 @@ rows-become ws after k l near far n z =
         total = omega (arith, k .total);
       };
       stands-for =
-        rw (s, far 204 (omega arith), far 205 (omega arith), far 206 (omega arith), packet-same ws after 207 207 (λ j g. far (207 + j) (omega arith)), queues-same ws after queue-words s t);
+          rw (s, far 204 (omega arith), far 205 (omega arith), far 206 (omega arith), packet-same ws after 207 207 (λ j g. far (207 + j) (omega arith)), queues-same ws after queue-words s t);
       same-length = l;
       beyond = λ i h. far i (omega arith);
     })
@@ -74,17 +74,17 @@ one-row ws after n next credit h l m a b c d e f below above =
     let q : 12 + 6 * (n - 1) ≡ 6 * (1 + n) = omega arith in
     ap (λ x. series (standingAt after) 6 12 x) m ∙ series-unit (standingAt after) 6 12 (word ws 11) z ∙
     series-set F G (word ws 11) (n - 1) z (omega arith) (λ i g x.
-      elim (decLe i (n - 1)) [
-        yes w ↦ standing-same ws after (12 + 6 * i) (λ j u v. below j (omega arith))
+    elim (decLe i (n - 1)) [
+      | yes w ↦ standing-same ws after (12 + 6 * i) (λ j u v. below j (omega arith))
       | no w ↦ standing-same ws after (12 + 6 * i) (λ j u v. above j (omega arith))
-      ]) ∙
+    ]) ∙
     ap (λ s. set (series F 1 0 (word ws 11)) (n - 1) s) (ap (standingAt after) q ∙ row-is ws after n next credit h l a b c d e f) ∙
     ap (λ s. set s (n - 1) (record { asked = connection (contents ws) n; allowance = record { next = next; credit = credit } })) (sym (series-unit (standingAt ws) 6 12 (word ws 11) z)))
 
 -- the allowance of one connection
 pub allowance-become : (ws : List ℕ) (n next credit : ℕ) → Fitting ws → 1 ≤ n → n ≤ word ws 11
     → Become ws (set (set ws (6 * (1 + n) + 4) next) (6 * (1 + n) + 5) credit)
-      (withStanding (contents ws) (set (contents ws .standing) (n - 1) (record { asked = connection (contents ws) n; allowance = record { next = next; credit = credit } })))
+    (withStanding (contents ws) (set (contents ws .standing) (n - 1) (record { asked = connection (contents ws) n; allowance = record { next = next; credit = credit } })))
 allowance-become ws n next credit k h l =
     (let at = 6 * (1 + n) in
     let mid = set ws (at + 4) next in
@@ -97,15 +97,15 @@ allowance-become ws n next credit k h l =
     let w4 : word after (at + 4) ≡ next = word-other mid (at + 5) credit (at + 4) (λ q. omega arith) ∙ word-same ws (at + 4) next (at + 4) (omega (arith, k .enough, k .rows)) refl in
     let w5 : word after (at + 5) ≡ credit = word-same mid (at + 5) credit (at + 5) (omega (arith, k .enough, k .rows)) refl in
     let b = rows-become ws after k la (λ i g. e i (λ q. omega arith) (λ q. omega arith)) (λ i g. e i (λ q. omega (arith, k .rows)) (λ q. omega (arith, k .rows)))
-        (omega (arith, k .rows)) (rw c (zeros-same ws after (12 + 6 * word ws 11) (192 - 6 * word ws 11) (λ i x y. e i (λ q. omega arith) (λ q. omega arith)) ∙ k .rows-clear)) in
+    (omega (arith, k .rows)) (rw c (zeros-same ws after (12 + 6 * word ws 11) (192 - 6 * word ws 11) (λ i x y. e i (λ q. omega arith) (λ q. omega arith)) ∙ k .rows-clear)) in
     rw (← (one-row ws after n next credit h l c (e at (λ q. omega arith) (λ q. omega arith)) (e (at + 1) (λ q. omega arith) (λ q. omega arith))
-      (e (at + 2) (λ q. omega arith) (λ q. omega arith)) (e (at + 3) (λ q. omega arith) (λ q. omega arith)) w4 w5
-      (λ i x. e i (λ q. omega arith) (λ q. omega arith)) (λ i x. e i (λ q. omega arith) (λ q. omega arith)))) b)
+    (e (at + 2) (λ q. omega arith) (λ q. omega arith)) (e (at + 3) (λ q. omega arith) (λ q. omega arith)) w4 w5
+    (λ i x. e i (λ q. omega arith) (λ q. omega arith)) (λ i x. e i (λ q. omega arith) (λ q. omega arith)))) b)
 
 -- six stores write a row
 pub row-stored : (ws : List ℕ) (at a b c d e f : ℕ) → at + 6 ≤ length ws
     → RowPut ws (set (set (set (set (set (set ws at a) (at + 1) b) (at + 2) c) (at + 3) d) (at + 4) e) (at + 5) f) at
-      (record { asked = record { class = a; longest = b; burst = c; period = d }; allowance = record { next = e; credit = f } })
+    (record { asked = record { class = a; longest = b; burst = c; period = d }; allowance = record { next = e; credit = f } })
 unfolding standingAt
 row-stored ws at a b c d e f h =
     (let w1 = set ws at a in
@@ -141,17 +141,17 @@ row-stored ws at a b c d e f h =
       same-length = l6;
       row = rw (p0, p1, p2, p3, p4, p5);
       below = λ i g.
-        o6 i (λ q. omega arith) ∙ o5 i (λ q. omega arith) ∙ o4 i (λ q. omega arith) ∙ o3 i (λ q. omega arith) ∙ o2 i (λ q. omega arith) ∙ o1 i (λ q. omega arith);
+          o6 i (λ q. omega arith) ∙ o5 i (λ q. omega arith) ∙ o4 i (λ q. omega arith) ∙ o3 i (λ q. omega arith) ∙ o2 i (λ q. omega arith) ∙ o1 i (λ q. omega arith);
       above = λ i g.
-        o6 i (λ q. omega arith) ∙ o5 i (λ q. omega arith) ∙ o4 i (λ q. omega arith) ∙ o3 i (λ q. omega arith) ∙ o2 i (λ q. omega arith) ∙ o1 i (λ q. omega arith);
+          o6 i (λ q. omega arith) ∙ o5 i (λ q. omega arith) ∙ o4 i (λ q. omega arith) ∙ o3 i (λ q. omega arith) ∙ o2 i (λ q. omega arith) ∙ o1 i (λ q. omega arith);
     })
 
 zeros-later : (ws : List ℕ) (start skip n : ℕ) → zeros ws start (skip + n) ≡ true → zeros ws (start + skip) n ≡ true
 unfolding zeros
 zeros-later ws start skip n e =
     every-all (λ w. eqb w 0) (λ i. word ws i) 1 (start + skip) n (λ i h.
-      (let q : start + skip + 1 * i ≡ start + 1 * (skip + i) = omega arith in
-      ap (λ x. eqb (word ws x) 0) q ∙ every-index (λ w. eqb w 0) (λ i. word ws i) 1 start (skip + n) e (skip + i) (omega arith)))
+    (let q : start + skip + 1 * i ≡ start + 1 * (skip + i) = omega arith in
+    ap (λ x. eqb (word ws x) 0) q ∙ every-index (λ w. eqb w 0) (λ i. word ws i) 1 start (skip + n) e (skip + i) (omega arith)))
 
 more-rows : (ws after : List ℕ) (s : Standing) → word after 11 ≡ suc (word ws 11)
     → ((i : ℕ) → 12 ≤ i → i < 12 + 6 * word ws 11 → word after i ≡ word ws i) → standingAt after (12 + 6 * word ws 11) ≡ s
@@ -176,8 +176,8 @@ append-become ws mid s at v k l a q w =
     let z : zeros ws (12 + 6 * suc n) (192 - 6 * suc n) ≡ true =
     sym (ap (λ x. zeros ws x (192 - 6 * suc n)) z1) ∙ zeros-later ws (12 + 6 * n) 6 (192 - 6 * suc n) (ap (zeros ws (12 + 6 * n)) z0 ∙ k .rows-clear) in
     let b = rows-become ws after k (length-set mid 11 v ∙ w .same-length) (λ i h. e i (λ x. omega arith) ∙ w .below i (omega arith))
-        (λ i h. e i (λ x. omega arith) ∙ w .above i (omega arith)) (omega arith)
-        (rw c (zeros-same ws after (12 + 6 * suc n) (192 - 6 * suc n) (λ i x y. e i (λ u. omega arith) ∙ w .above i (omega arith)) ∙ z)) in
+    (λ i h. e i (λ x. omega arith) ∙ w .above i (omega arith)) (omega arith)
+    (rw c (zeros-same ws after (12 + 6 * suc n) (192 - 6 * suc n) (λ i x y. e i (λ u. omega arith) ∙ w .above i (omega arith)) ∙ z)) in
     let r : standingAt after (12 + 6 * n) ≡ s =
     standing-same mid after (12 + 6 * n) (λ j x y. e j (λ u. omega arith)) ∙ ap (standingAt mid) (sym a) ∙ w .row in
     rw (more-rows ws after s c (λ i x y. e i (λ u. omega arith) ∙ w .below i (omega arith)) r) at b)

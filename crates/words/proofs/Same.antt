@@ -43,8 +43,14 @@ module _ (ws after : List ℕ) where
   pub standing-same : (at : ℕ) → ((i : ℕ) → at ≤ i → i < at + 6 → word after i ≡ word ws i) → standingAt after at ≡ standingAt ws at
   unfolding standingAt
   standing-same at e =
-      rw (e at (omega arith) (omega arith), e (at + 1) (omega arith) (omega arith), e (at + 2) (omega arith) (omega arith),
-        e (at + 3) (omega arith) (omega arith), e (at + 4) (omega arith) (omega arith), e (at + 5) (omega arith) (omega arith))
+      rw (
+        e at (omega arith) (omega arith),
+        e (at + 1) (omega arith) (omega arith),
+        e (at + 2) (omega arith) (omega arith),
+        e (at + 3) (omega arith) (omega arith),
+        e (at + 4) (omega arith) (omega arith),
+        e (at + 5) (omega arith) (omega arith),
+      )
 
   pub standings-same : word ws 11 ≤ 32 → ((i : ℕ) → 11 ≤ i → i < 204 → word after i ≡ word ws i) → standings after ≡ standings ws
   unfolding standings
@@ -120,7 +126,7 @@ module _ (ws after : List ℕ) (e : (i : ℕ) → 211 ≤ i → word after i ≡
   queue-same p =
       rw (e (211 + p) (omega arith), lengths-same p)
       (series-same (packetAt after) (packetAt ws) 4 (275 + 4 * lengthsBelow ws p) (275 + 4 * lengthsBelow ws p) (word ws (211 + p)) (λ i h.
-        packet-same ws after (275 + 4 * lengthsBelow ws p + 4 * i) (275 + 4 * lengthsBelow ws p + 4 * i) (λ j g. e (275 + 4 * lengthsBelow ws p + 4 * i + j) (omega arith))))
+      packet-same ws after (275 + 4 * lengthsBelow ws p + 4 * i) (275 + 4 * lengthsBelow ws p + 4 * i) (λ j g. e (275 + 4 * lengthsBelow ws p + 4 * i + j) (omega arith))))
 
   pub queues-same : settingsAt after ≡ settingsAt ws → turnsAt after ≡ turnsAt ws → queuesAt after ≡ queuesAt ws
   unfolding queuesAt

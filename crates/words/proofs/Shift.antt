@@ -76,22 +76,22 @@ module _ (ws after : List ℕ) (place less more : ℕ) (in-range : place < 64) (
       let a = start-is after p in
       let b = start-is ws p in
       rw n (series-same (packetAt after) (packetAt ws) 4 (startOf after p) (startOf ws p) m (λ i l.
-        elim (decLe p place) [
-          yes k ↦
-              (let c = below-same p k in
-              let d = lengths-most ws p place (omega arith) in
-              let f = start-is ws place in
-              packet-same ws after (startOf after p + 4 * i) (startOf ws p + 4 * i) (λ j g.
-                (let e : startOf after p + 4 * i + j ≡ startOf ws p + 4 * i + j = omega arith in
-                ap (λ x. word after x) e ∙ s .before (startOf ws p + 4 * i + j) (omega arith) (omega arith))))
+      elim (decLe p place) [
+        | yes k ↦
+            (let c = below-same p k in
+            let d = lengths-most ws p place (omega arith) in
+            let f = start-is ws place in
+            packet-same ws after (startOf after p + 4 * i) (startOf ws p + 4 * i) (λ j g.
+            (let e : startOf after p + 4 * i + j ≡ startOf ws p + 4 * i + j = omega arith in
+            ap (λ x. word after x) e ∙ s .before (startOf ws p + 4 * i + j) (omega arith) (omega arith))))
         | no k ↦
-              (let c = above p (omega arith) (omega arith) in
-              let d = lengths-most ws p 64 h in
-              let f = start-is ws (suc place) in
-              let g = lengths-rise ws (suc place) p (omega arith) in
-              packet-same ws after (startOf after p + 4 * i) (startOf ws p + 4 * i) (λ j v.
-                s .later (startOf ws p + 4 * i + j) (startOf after p + 4 * i + j) (omega arith) (omega arith) (omega arith)))
-        ])))
+            (let c = above p (omega arith) (omega arith) in
+            let d = lengths-most ws p 64 h in
+            let f = start-is ws (suc place) in
+            let g = lengths-rise ws (suc place) p (omega arith) in
+            packet-same ws after (startOf after p + 4 * i) (startOf ws p + 4 * i) (λ j v.
+            s .later (startOf ws p + 4 * i + j) (startOf after p + 4 * i + j) (omega arith) (omega arith) (omega arith)))
+      ])))
 
   pub total-moved : lengthsBelow after 64 + less ≡ lengthsBelow ws 64 + more
   total-moved = above 64 in-range (omega arith)
@@ -124,8 +124,8 @@ module _ (ws after : List ℕ) (tag less more : ℕ) (k : Fitting ws) (tagged : 
       let g : ℕ → List Packet = λ j. queueAt after (placeOf t j) in
       rw (shift-settings, shift-turns)
       (series-set f g (suc r) tag [] (omega arith) (λ i h q.
-        other-queue ws after (placeOf t tag) less more (place-below t tag) s (placeOf t i) (place-below t i)
-        (places-differ t i tag (omega (arith, k .largest)) (omega (arith, k .largest)) q))))
+      other-queue ws after (placeOf t tag) less more (place-below t tag) s (placeOf t i) (place-below t i)
+      (places-differ t i tag (omega (arith, k .largest)) (omega (arith, k .largest)) q))))
 
   shift-untagged : untaggedEmpty after ≡ true
   unfolding untaggedEmpty emptyFrom
@@ -134,9 +134,9 @@ module _ (ws after : List ℕ) (tag less more : ℕ) (k : Fitting ws) (tagged : 
       let r = largestFactor (settingsAt ws) in
       rw (shift-settings, shift-turns)
       (ap (every (λ w. eqb w 0)) (series-same (λ j. word after (211 + placeOf t j)) (λ j. word ws (211 + placeOf t j)) 1 (suc r) (suc r) (63 - r) (λ i h.
-        (let j = suc r + 1 * i in
-        s .tables (211 + placeOf t j) (omega (arith, place-below t j))
-        (λ q. places-differ t j tag (omega (arith, k .largest)) (omega (arith, k .largest)) (λ e. omega arith) (omega arith))))) ∙
+      (let j = suc r + 1 * i in
+      s .tables (211 + placeOf t j) (omega (arith, place-below t j))
+      (λ q. places-differ t j tag (omega (arith, k .largest)) (omega (arith, k .largest)) (λ e. omega arith) (omega arith))))) ∙
       k .untagged))
 
   pub shifted-become : lengthsBelow after 64 ≤ 1024 → ((i : ℕ) → 275 + 4 * lengthsBelow after 64 ≤ i → word after i ≡ word ws i)
@@ -145,10 +145,17 @@ module _ (ws after : List ℕ) (tag less more : ℕ) (k : Fitting ws) (tagged : 
   shifted-become h b =
       record {
         fitting = fitting-kept ws after k (s .same-length) (λ i l. kept-words i (omega arith))
-          (link-clear-same ws after (λ i a l. kept-words i l) ∙ k .link-clear) shift-untagged h;
+            (link-clear-same ws after (λ i a l. kept-words i l) ∙ k .link-clear) shift-untagged h;
         stands-for =
-          rw (shift-settings, standings-same ws after (k .rows) (λ i a l. kept-words i (omega arith)), kept-words 204 (omega arith),
-            kept-words 205 (omega arith), kept-words 206 (omega arith), packet-same ws after 207 207 (λ j l. kept-words (207 + j) (omega arith)), shift-queues);
+            rw (
+              shift-settings,
+              standings-same ws after (k .rows) (λ i a l. kept-words i (omega arith)),
+              kept-words 204 (omega arith),
+              kept-words 205 (omega arith),
+              kept-words 206 (omega arith),
+              packet-same ws after 207 207 (λ j l. kept-words (207 + j) (omega arith)),
+              shift-queues,
+            );
         same-length = s .same-length;
         beyond = b;
       }

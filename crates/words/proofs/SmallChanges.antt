@@ -52,10 +52,17 @@ accepted-become ws v k =
     let l = lengths-same ws after far 64 in
     record {
       fitting = fitting-kept ws after k (length-set ws 205 v) (λ i h. e i (λ q. omega arith))
-        (link-clear-same ws after (λ i a b. e i (λ q. omega arith)) ∙ k .link-clear) (untagged-same ws after far s t ∙ k .untagged) (omega (arith, k .total));
+          (link-clear-same ws after (λ i a b. e i (λ q. omega arith)) ∙ k .link-clear) (untagged-same ws after far s t ∙ k .untagged) (omega (arith, k .total));
       stands-for =
-        rw (s, standings-same ws after (k .rows) (λ i a b. e i (λ q. omega arith)), e 204 (λ q. omega arith), word-same ws 205 v 205 (omega (arith, k .enough)) refl,
-          e 206 (λ q. omega arith), packet-same ws after 207 207 (λ j g. e (207 + j) (λ q. omega arith)), queues-same ws after far s t);
+          rw (
+            s,
+            standings-same ws after (k .rows) (λ i a b. e i (λ q. omega arith)),
+            e 204 (λ q. omega arith),
+            word-same ws 205 v 205 (omega (arith, k .enough)) refl,
+            e 206 (λ q. omega arith),
+            packet-same ws after 207 207 (λ j g. e (207 + j) (λ q. omega arith)),
+            queues-same ws after far s t,
+          );
       same-length = length-set ws 205 v;
       beyond = λ i h. far i (omega arith);
     })
@@ -75,8 +82,15 @@ link-become ws after left p k w c =
     record {
       fitting = fitting-kept ws after k n (λ i h. near i (omega arith)) c (untagged-same ws after far s t ∙ k .untagged) (omega (arith, k .total));
       stands-for =
-        rw (s, standings-same ws after (k .rows) (λ i a b. near i (omega arith)), near 204 (omega arith), near 205 (omega arith),
-          w .below 206 (omega arith) ∙ word-same ws 206 left 206 (omega (arith, k .enough)) refl, w .packet, queues-same ws after far s t);
+          rw (
+            s,
+            standings-same ws after (k .rows) (λ i a b. near i (omega arith)),
+            near 204 (omega arith),
+            near 205 (omega arith),
+            w .below 206 (omega arith) ∙ word-same ws 206 left 206 (omega (arith, k .enough)) refl,
+            w .packet,
+            queues-same ws after far s t,
+          );
       same-length = n;
       beyond = λ i h. far i (omega arith);
     })
@@ -89,8 +103,8 @@ next-turn n D h e =
     let a : q * D + r ≡ n = div-add-mod' n D in
     let b : r < D = mod-lt n h in
     elim (decLe D (suc r)) [
-      yes k ↦ (let c : suc n ≡ suc q * D + 0 = omega arith in ap (λ m. m / D) c ∙ digits-div (suc q) {m = D} {r = 0} h)
-    | no k ↦
+      | yes k ↦ (let c : suc n ≡ suc q * D + 0 = omega arith in ap (λ m. m / D) c ∙ digits-div (suc q) {m = D} {r = 0} h)
+      | no k ↦
           (let c : suc n ≡ q * D + suc r = omega arith in
           let d : suc n % D ≡ suc r = ap (λ m. m % D) c ∙ digits-mod q {m = D} {r = suc r} (omega arith) in
           absurd (omega arith))
@@ -103,8 +117,8 @@ no-turn n D h e =
     let a : q * D + r ≡ n = div-add-mod' n D in
     let b : r < D = mod-lt n h in
     elim (decLe D (suc r)) [
-      yes k ↦ (let c : suc n ≡ suc q * D + 0 = omega arith in absurd (e (ap (λ m. m % D) c ∙ digits-mod (suc q) {m = D} {r = 0} h)))
-    | no k ↦ (let c : suc n ≡ q * D + suc r = omega arith in ap (λ m. m / D) c ∙ digits-div q {m = D} {r = suc r} (omega arith))
+      | yes k ↦ (let c : suc n ≡ suc q * D + 0 = omega arith in absurd (e (ap (λ m. m % D) c ∙ digits-mod (suc q) {m = D} {r = 0} h)))
+      | no k ↦ (let c : suc n ≡ q * D + suc r = omega arith in ap (λ m. m / D) c ∙ digits-div q {m = D} {r = suc r} (omega arith))
     ])
 
 first-last : {A : Type 0} (f : ℕ → List A) (r : ℕ) → turned (series f 1 0 (suc r)) ≡ series f 1 1 r ++ (f 0 ∷ [])
@@ -137,8 +151,8 @@ past-last : (ws : List ℕ) → Fitting ws → tagZeroWaits (contents ws .queues
     → (k : ℕ) → largestFactor (settingsAt ws) < k → k ≤ 64 → word ws (211 + placeOf (turnsAt ws) k) ≡ 0
 past-last ws f z k h l =
     elim (decLe 64 k) [
-      yes a ↦ (let e : k ≡ 64 = omega arith in ap (λ n. word ws (211 + placeOf (turnsAt ws) n)) e ∙ ap (λ p. word ws (211 + p)) (place-whole (turnsAt ws)) ∙ zero-length ws z)
-    | no a ↦ untagged-zero ws (f .untagged) k h (omega arith)
+      | yes a ↦ (let e : k ≡ 64 = omega arith in ap (λ n. word ws (211 + placeOf (turnsAt ws) n)) e ∙ ap (λ p. word ws (211 + p)) (place-whole (turnsAt ws)) ∙ zero-length ws z)
+      | no a ↦ untagged-zero ws (f .untagged) k h (omega arith)
     ]
 
 -- the counter
@@ -160,10 +174,17 @@ module _ (ws : List ℕ) (v : ℕ) (k : Fitting ws) where
       let l = lengths-same ws after counted-far 64 in
       record {
         fitting = fitting-kept ws after k (length-set ws 204 v) (λ i h. counted i (λ q. omega arith))
-          (link-clear-same ws after (λ i a b. counted i (λ q. omega arith)) ∙ k .link-clear) u (omega (arith, k .total));
+            (link-clear-same ws after (λ i a b. counted i (λ q. omega arith)) ∙ k .link-clear) u (omega (arith, k .total));
         stands-for =
-          rw (counted-settings, standings-same ws after (k .rows) (λ i a b. counted i (λ q. omega arith)), word-same ws 204 v 204 (omega (arith, k .enough)) refl,
-            counted 205 (λ q. omega arith), counted 206 (λ q. omega arith), packet-same ws after 207 207 (λ j g. counted (207 + j) (λ q. omega arith)), q);
+            rw (
+              counted-settings,
+              standings-same ws after (k .rows) (λ i a b. counted i (λ q. omega arith)),
+              word-same ws 204 v 204 (omega (arith, k .enough)) refl,
+              counted 205 (λ q. omega arith),
+              counted 206 (λ q. omega arith),
+              packet-same ws after 207 207 (λ j g. counted (207 + j) (λ q. omega arith)),
+              q,
+            );
         same-length = length-set ws 204 v;
         beyond = λ i h. counted-far i (omega arith);
       })
@@ -178,9 +199,9 @@ module _ (ws : List ℕ) (v : ℕ) (k : Fitting ws) where
       (let r = largestFactor (settingsAt ws) in
       rw (counted-settings, t)
       (every-all (λ w. eqb w 0) (λ j. word (set ws 204 v) (211 + placeOf (suc (turnsAt ws)) j)) 1 (suc r) (63 - r) (λ i h.
-        (let j = suc r + 1 * i in
-        eq-eqb _ 0 (counted-far (211 + placeOf (suc (turnsAt ws)) j) (omega arith) ∙ ap (λ p. word ws (211 + p)) (place-turned (turnsAt ws) j) ∙
-        past-last ws k z (suc j) (omega arith) (omega arith))))))
+      (let j = suc r + 1 * i in
+      eq-eqb _ 0 (counted-far (211 + placeOf (suc (turnsAt ws)) j) (omega arith) ∙ ap (λ p. word ws (211 + p)) (place-turned (turnsAt ws) j) ∙
+      past-last ws k z (suc j) (omega arith) (omega arith))))))
 
   turned-queues : turnsAt (set ws 204 v) ≡ suc (turnsAt ws) → tagZeroWaits (contents ws .queues) ≡ false → queuesAt (set ws 204 v) ≡ turned (contents ws .queues)
   unfolding queuesAt contents
@@ -189,7 +210,7 @@ module _ (ws : List ℕ) (v : ℕ) (k : Fitting ws) where
       let f : ℕ → List Packet = λ j. queueAt ws (placeOf (turnsAt ws) j) in
       rw (counted-settings, t)
       (series-same (λ j. queueAt (set ws 204 v) (placeOf (suc (turnsAt ws)) j)) (λ j. f (suc j)) 1 0 0 (suc r) (λ i h.
-        queue-same ws (set ws 204 v) counted-far (placeOf (suc (turnsAt ws)) (0 + 1 * i)) ∙ ap (queueAt ws) (place-turned (turnsAt ws) (0 + 1 * i))) ∙
+      queue-same ws (set ws 204 v) counted-far (placeOf (suc (turnsAt ws)) (0 + 1 * i)) ∙ ap (queueAt ws) (place-turned (turnsAt ws) (0 + 1 * i))) ∙
       turned-series f r
       (queue-untagged ws (placeOf (turnsAt ws) (suc r)) (past-last ws k z (suc r) (omega arith) (omega (arith, k .largest))) ∙ sym (zero-empty ws z))))
 
@@ -217,7 +238,7 @@ queues-is ws = refl
 -- the box after a slot, where it is known whether a turn is due
 turn-box : (ws : List ℕ) (v : ℕ) (due : Bool) → Fitting ws → v ≡ suc (word ws 204) → turnAt (word ws 0) (suc (word ws 204)) ≡ due
     → Become ws (set ws 204 v)
-      (record { settings = contents ws .settings; standing = contents ws .standing; counter = v; accepted = contents ws .accepted; link = contents ws .link; queues = cond due (turned (contents ws .queues)) (contents ws .queues) })
+    (record { settings = contents ws .settings; standing = contents ws .standing; counter = v; accepted = contents ws .accepted; link = contents ws .link; queues = cond due (turned (contents ws .queues)) (contents ws .queues) })
     → Become ws (set ws 204 v) (raised (contents ws))
 unfolding raised contents settingsAt
 turn-box ws v due k e q b = rw (q, ← e) b
@@ -230,11 +251,11 @@ raise-become ws v k e z =
     let D = word ws 0 in
     ⊎-elim
     (λ (q : turnAt D (suc n) ≡ true).
-      (let t = turns-after ws v k ∙ ap (λ m. m / D) e ∙ next-turn n D (k .interval) (turn-slot D n q) ∙ turns-is ws in
-      turn-box ws v true k e q (counter-become ws v k (turned (contents ws .queues)) (turned-untagged ws v k t (z q)) (turned-queues ws v k t (z q)))))
+    (let t = turns-after ws v k ∙ ap (λ m. m / D) e ∙ next-turn n D (k .interval) (turn-slot D n q) ∙ turns-is ws in
+    turn-box ws v true k e q (counter-become ws v k (turned (contents ws .queues)) (turned-untagged ws v k t (z q)) (turned-queues ws v k t (z q)))))
     (λ (q : turnAt D (suc n) ≡ false).
-      (let t = turns-after ws v k ∙ ap (λ m. m / D) e ∙ no-turn n D (k .interval) (no-turn-slot D n q) ∙ turns-same-is ws in
-      turn-box ws v false k e q
-      (counter-become ws v k (contents ws .queues) (untagged-same ws (set ws 204 v) (counted-far ws v k) (counted-settings ws v k) t ∙ k .untagged)
-      (queues-same ws (set ws 204 v) (counted-far ws v k) (counted-settings ws v k) t ∙ queues-is ws))))
+    (let t = turns-after ws v k ∙ ap (λ m. m / D) e ∙ no-turn n D (k .interval) (no-turn-slot D n q) ∙ turns-same-is ws in
+    turn-box ws v false k e q
+    (counter-become ws v k (contents ws .queues) (untagged-same ws (set ws 204 v) (counted-far ws v k) (counted-settings ws v k) t ∙ k .untagged)
+    (queues-same ws (set ws 204 v) (counted-far ws v k) (counted-settings ws v k) t ∙ queues-is ws))))
     (bool-cases (turnAt D (suc n))))

@@ -26,9 +26,9 @@ use Rattle.words.proofs.PutContents.{class-count, row-count}
 -- the test of a row, word by word
 pub row-parts : (ws : List ℕ) (at : ℕ)
     → rowKept ws (standingAt ws at) ≡ (within 1 (word ws at) (word ws 2) && (within 1 (word ws (at + 1)) 64 && (within 1 (word ws (at + 2)) 64 &&
-      (within 1 (word ws (at + 3)) (word ws 1) && (eqb (word ws 1 % word ws (at + 3)) 0 &&
-      allowanceKept (record { class = 0; longest = 0; burst = word ws (at + 2); period = word ws (at + 3) }) (word ws 204)
-      (record { next = word ws (at + 4); credit = word ws (at + 5) }))))))
+    (within 1 (word ws (at + 3)) (word ws 1) && (eqb (word ws 1 % word ws (at + 3)) 0 &&
+    allowanceKept (record { class = 0; longest = 0; burst = word ws (at + 2); period = word ws (at + 3) }) (word ws 204)
+    (record { next = word ws (at + 4); credit = word ws (at + 5) }))))))
 unfolding rowKept standingAt connectionAllowed classAllowed longestAllowed burstAllowed periodAllowed settingsAt classCount allowanceKept
 row-parts ws at = simp (length-series, and-assoc)
 
@@ -44,7 +44,7 @@ connection-at ws n h k =
 -- the test of a packet, word by word
 pub packet-parts : (ws : List ℕ) (at : ℕ)
     → packetKept (contents ws) (packetAt ws at) ≡ (within 1 (word ws at) (word ws 205) && (within 1 (word ws (at + 1)) (word ws 11) &&
-      (within 1 (word ws (at + 2)) (connection (contents ws) (word ws (at + 1)) .longest) && leb (word ws (at + 3)) (word ws 204))))
+    (within 1 (word ws (at + 2)) (connection (contents ws) (word ws (at + 1)) .longest) && leb (word ws (at + 3)) (word ws 204))))
 unfolding packetKept stands contents packetAt standings
 packet-parts ws at = simp (length-series, and-assoc)
 
@@ -98,7 +98,7 @@ kept-connection ws at e =
 -- the test of settings, number by number
 pub settings-parts : (D M : ℕ) (fs : List ℕ)
     → settingsAllowed (asked D M fs) ≡ (within 1 D 256 && (within 1 M 4096 && (leb 1 (length fs) && (leb (length fs) 8 && (risingAbove 0 fs &&
-      (leb (getD fs (length fs - 1) 0) 63 && leb (getD fs (length fs - 1) 0 * D) 1024))))))
+    (leb (getD fs (length fs - 1) 0) 63 && leb (getD fs (length fs - 1) 0 * D) 1024))))))
 unfolding settingsAllowed intervalAllowed cycleAllowed classesAllowed largestBoundAllowed classCount largestFactor factor largestBound bound within
 settings-parts D M fs = simp and-assoc
 

@@ -92,10 +92,11 @@ parts-tested ws p =
     let c : C ≡ true =
     and-eq-true-iff (leb (word ws 204) lastSlot && leb (lengthsBelow ws 64) mostWaiting) n .1
     (and-eq-true-iff (leb (word ws 204) lastSlot) (leb (lengthsBelow ws 64) mostWaiting) .1 (le-leb _ _ (p .counter), le-leb _ _ (p .total)), le-leb _ _ (p .accepted)) in
-    and-eq-true-iff (l && S && R && C && L) (queuesTested ws) .1
-    (and-eq-true-iff (l && S && R && C) L .1
-    (and-eq-true-iff (l && S && R) C .1 (and-eq-true-iff (l && S) R .1 (and-eq-true-iff l S .1 (le-leb _ _ (p .enough), s), r), c), p .link),
-    queues-test ws (p .queues)))
+    and-eq-true-iff (l && S && R && C && L) (queuesTested ws) .1 (
+      and-eq-true-iff (l && S && R && C) L .1
+          (and-eq-true-iff (l && S && R) C .1 (and-eq-true-iff (l && S) R .1 (and-eq-true-iff l S .1 (le-leb _ _ (p .enough), s), r), c), p .link),
+      queues-test ws (p .queues),
+    ))
 
 -- the clauses on the link
 record LinkFacts (box : Box) (ws : List ℕ) : Type 0 where
@@ -113,25 +114,25 @@ unfolding linkTested linkClear onLink linkOf every linkKept packetAt
 link-facts ws e =
     ⊎-elim
     (λ (q : eqb (word ws 206) 0 ≡ true).
-      (let z = eqb-true (word ws 206) 0 q in
-      let c : zeros ws 207 4 ≡ true =
-      sym (ap (λ b. cond b (zeros ws 207 4) (packetKept (contents ws) (packetAt ws 207) && ltb (word ws 206) (word ws 209))) q) ∙ e in
-      record {
-        clear = ap (λ b. cond b (zeros ws 207 4) true) q ∙ c;
-        kept = ap (λ n. every (packetKept (contents ws)) (onLink (linkOf n (packetAt ws 207)))) z;
-        left = ap (λ n. linkKept (linkOf n (packetAt ws 207))) z;
-      }))
+    (let z = eqb-true (word ws 206) 0 q in
+    let c : zeros ws 207 4 ≡ true =
+    sym (ap (λ b. cond b (zeros ws 207 4) (packetKept (contents ws) (packetAt ws 207) && ltb (word ws 206) (word ws 209))) q) ∙ e in
+    record {
+      clear = ap (λ b. cond b (zeros ws 207 4) true) q ∙ c;
+      kept = ap (λ n. every (packetKept (contents ws)) (onLink (linkOf n (packetAt ws 207)))) z;
+      left = ap (λ n. linkKept (linkOf n (packetAt ws 207))) z;
+    }))
     (λ (q : eqb (word ws 206) 0 ≡ false).
-      (let z = eqb-false (word ws 206) 0 q in
-      let t = sym (ap (λ b. cond b (zeros ws 207 4) (packetKept (contents ws) (packetAt ws 207) && ltb (word ws 206) (word ws 209))) q) ∙ e in
-      let a = and-eq-true-iff (packetKept (contents ws) (packetAt ws 207)) (ltb (word ws 206) (word ws 209)) .0 t in
-      let h : word ws 206 < word ws 209 = ltb-true _ _ (a .1) in
-      let l = link-carries (word ws 206) (packetAt ws 207) (omega arith) in
-      record {
-        clear = ap (λ b. cond b (zeros ws 207 4) true) q;
-        kept = ap (λ l. every (packetKept (contents ws)) (onLink l)) l ∙ and-eq-true-iff (packetKept (contents ws) (packetAt ws 207)) true .1 (a .0, refl);
-        left = ap linkKept l ∙ within-test 1 (word ws 206) (word ws 209 - 1) (omega arith) (omega arith);
-      }))
+    (let z = eqb-false (word ws 206) 0 q in
+    let t = sym (ap (λ b. cond b (zeros ws 207 4) (packetKept (contents ws) (packetAt ws 207) && ltb (word ws 206) (word ws 209))) q) ∙ e in
+    let a = and-eq-true-iff (packetKept (contents ws) (packetAt ws 207)) (ltb (word ws 206) (word ws 209)) .0 t in
+    let h : word ws 206 < word ws 209 = ltb-true _ _ (a .1) in
+    let l = link-carries (word ws 206) (packetAt ws 207) (omega arith) in
+    record {
+      clear = ap (λ b. cond b (zeros ws 207 4) true) q;
+      kept = ap (λ l. every (packetKept (contents ws)) (onLink l)) l ∙ and-eq-true-iff (packetKept (contents ws) (packetAt ws 207)) true .1 (a .0, refl);
+      left = ap linkKept l ∙ within-test 1 (word ws 206) (word ws 209 - 1) (omega arith) (omega arith);
+    }))
     (bool-cases (eqb (word ws 206) 0))
 
 link-test : (ws : List ℕ) → LinkFacts (contents ws) ws → linkTested ws ≡ true
@@ -139,15 +140,15 @@ unfolding linkTested linkClear onLink linkOf every linkKept packetAt
 link-test ws f =
     ⊎-elim
     (λ (q : eqb (word ws 206) 0 ≡ true).
-      ap (λ b. cond b (zeros ws 207 4) (packetKept (contents ws) (packetAt ws 207) && ltb (word ws 206) (word ws 209))) q ∙
-      sym (ap (λ b. cond b (zeros ws 207 4) true) q) ∙ f .clear)
+    ap (λ b. cond b (zeros ws 207 4) (packetKept (contents ws) (packetAt ws 207) && ltb (word ws 206) (word ws 209))) q ∙
+    sym (ap (λ b. cond b (zeros ws 207 4) true) q) ∙ f .clear)
     (λ (q : eqb (word ws 206) 0 ≡ false).
-      (let z = eqb-false (word ws 206) 0 q in
-      let l = link-carries (word ws 206) (packetAt ws 207) (omega arith) in
-      let k = and-eq-true-iff (packetKept (contents ws) (packetAt ws 207)) true .0 (sym (ap (λ l. every (packetKept (contents ws)) (onLink l)) l) ∙ f .kept) in
-      let w = within-facts 1 (word ws 206) (word ws 209 - 1) (sym (ap linkKept l) ∙ f .left) in
-      ap (λ b. cond b (zeros ws 207 4) (packetKept (contents ws) (packetAt ws 207) && ltb (word ws 206) (word ws 209))) q ∙
-      and-eq-true-iff (packetKept (contents ws) (packetAt ws 207)) (ltb (word ws 206) (word ws 209)) .1 (k .0, lt-ltb (word ws 206) (word ws 209) (omega arith))))
+    (let z = eqb-false (word ws 206) 0 q in
+    let l = link-carries (word ws 206) (packetAt ws 207) (omega arith) in
+    let k = and-eq-true-iff (packetKept (contents ws) (packetAt ws 207)) true .0 (sym (ap (λ l. every (packetKept (contents ws)) (onLink l)) l) ∙ f .kept) in
+    let w = within-facts 1 (word ws 206) (word ws 209 - 1) (sym (ap linkKept l) ∙ f .left) in
+    ap (λ b. cond b (zeros ws 207 4) (packetKept (contents ws) (packetAt ws 207) && ltb (word ws 206) (word ws 209))) q ∙
+    and-eq-true-iff (packetKept (contents ws) (packetAt ws 207)) (ltb (word ws 206) (word ws 209)) .1 (k .0, lt-ltb (word ws 206) (word ws 209) (omega arith))))
     (bool-cases (eqb (word ws 206) 0))
 
 -- the rows pass both tests together
@@ -164,7 +165,7 @@ unfolding untaggedEmpty emptyFrom
 untagged-test ws f =
     (let r = largestFactor (settingsAt ws) in
     every-all (λ w. eqb w 0) (λ k. word ws (211 + placeOf (turnsAt ws) k)) 1 (suc r) (63 - r) (λ i h.
-      eq-eqb _ 0 (f .untagged (suc r + 1 * i) (omega arith) (omega arith))))
+    eq-eqb _ 0 (f .untagged (suc r + 1 * i) (omega arith) (omega arith))))
 
 queues-count : (ws : List ℕ) → length (queuesAt ws) ≡ suc (largestFactor (settingsAt ws))
 unfolding queuesAt
@@ -209,7 +210,7 @@ parts-sound ws p =
       in-their-queues = in-queues-all box (λ k. queueAt ws (placeOf (turnsAt ws) k)) 0 (suc (largestFactor (settingsAt ws))) (λ k a h. tagged k (omega arith) .ranked);
       serials-rise = each-queue ws (λ q. risingAbove 0 (map (λ p. p .serial) q)) (λ k h. tagged k h .rise);
       packets-kept = every-append (packetKept box) (waiting box) (onLink onlink)
-        (every-flatten (packetKept box) (queuesAt ws) (each-queue ws (every (packetKept box)) (λ k h. tagged k h .kept))) (l .kept);
+          (every-flatten (packetKept box) (queuesAt ws) (each-queue ws (every (packetKept box)) (λ k h. tagged k h .kept))) (l .kept);
       link-kept = l .left;
       count-most = omega (arith, p .accepted);
       allowances-kept = b .1;
@@ -218,13 +219,16 @@ parts-sound ws p =
 parts-formed : (ws : List ℕ) → Parts ws → wellFormed ws ≡ true
 unfolding wellFormed unusedClear
 parts-formed ws p =
-    and-eq-true-iff (leb boxWords (length ws) && unusedClear ws && linkClear ws) (untaggedEmpty ws) .1
-    (and-eq-true-iff (leb boxWords (length ws) && unusedClear ws) (linkClear ws) .1
-    (and-eq-true-iff (leb boxWords (length ws)) (unusedClear ws) .1
-    (le-leb _ _ (p .enough),
-    and-eq-true-iff (zeros ws (3 + word ws 2) (8 - word ws 2)) (zeros ws (12 + 6 * word ws 11) (192 - 6 * word ws 11)) .1 (p .factors-clear, p .rows-clear)),
-    link-facts ws (p .link) .clear),
-    untagged-test ws (p .queues))
+    and-eq-true-iff (leb boxWords (length ws) && unusedClear ws && linkClear ws) (untaggedEmpty ws) .1 (
+      and-eq-true-iff (leb boxWords (length ws) && unusedClear ws) (linkClear ws) .1 (
+        and-eq-true-iff (leb boxWords (length ws)) (unusedClear ws) .1 (
+          le-leb _ _ (p .enough),
+          and-eq-true-iff (zeros ws (3 + word ws 2) (8 - word ws 2)) (zeros ws (12 + 6 * word ws 11) (192 - 6 * word ws 11)) .1 (p .factors-clear, p .rows-clear),
+        ),
+        link-facts ws (p .link) .clear,
+      ),
+      untagged-test ws (p .queues),
+    )
 
 pub sound-contents : (ws : List ℕ) → soundWords ws ≡ true → sound (contents ws) ≡ true
 unfolding soundWords

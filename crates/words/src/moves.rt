@@ -30,7 +30,14 @@ pub(crate) fn move_down(ws: &mut [u32], from: usize, to: usize)
 }
 
 // A packet is written at word `at`.
-pub(crate) fn write_packet(ws: &mut [u32], at: usize, serial: u32, connection: u32, units: u32, arrival: u32)
+pub(crate) fn write_packet(
+    ws: &mut [u32],
+    at: usize,
+    serial: u32,
+    connection: u32,
+    units: u32,
+    arrival: u32,
+)
     requires { ⌜ at + 4 ≤ length (now ws) ⌝ }
     ensures { λ _. ⌜ PacketPut (now (ws .entry)) (now (ws .exit)) at (record { serial = serial; connection = connection; units = units; arrival = arrival }) ⌝ }
 {

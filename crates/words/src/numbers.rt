@@ -17,11 +17,7 @@ pub fn wide(x: u32) -> usize
 pub fn is_within(low: u32, x: u32, high: u32) -> bool
     ensures { λ r. ⌜ r ≡ within low x high ⌝ }
 {
-    if low <= x {
-        x <= high
-    } else {
-        false
-    }
+    if low <= x { x <= high } else { false }
 }
 
 // The words from index `from` up to, not including, index `to` are 0.

@@ -1,5 +1,7 @@
 // The packets in words: the test of one, of a queue and of the packet on the link.
-use crate::numbers::{are_zero, is_within, wide};
+use crate::numbers::are_zero;
+use crate::numbers::is_within;
+use crate::numbers::wide;
 ghost use mathlib.Core.Path.{_≡_};
 ghost use mathlib.Core.Bool.{true};
 ghost use Prim.Native.Nat.{_+_, _*_, _≤_, _<_};

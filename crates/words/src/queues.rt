@@ -1,8 +1,12 @@
 // The queues in words: which has a packet, joining a tail, taking a head, and the turn.
-use crate::moves::{move_down, move_up, write_packet};
+use crate::moves::move_down;
+use crate::moves::move_up;
+use crate::moves::write_packet;
+use crate::numbers::lengths_below;
+use crate::numbers::wide;
 use crate::parts::write_link;
-use crate::numbers::{lengths_below, wide};
-use crate::soundness::{largest_factor, turns};
+use crate::soundness::largest_factor;
+use crate::soundness::turns;
 ghost use mathlib.Core.Path.{_≡_};
 ghost use mathlib.Core.Bool.{true};
 ghost use Prim.Native.Nat.{suc, _+_, _*_, _≤_, _<_};

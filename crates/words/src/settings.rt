@@ -1,5 +1,7 @@
 // The settings of a box: the first rows of document 01's table.
-use crate::numbers::{are_zero, is_within, wide};
+use crate::numbers::are_zero;
+use crate::numbers::is_within;
+use crate::numbers::wide;
 ghost use mathlib.Core.Path.{_≡_};
 ghost use Prim.Native.Nat.{_≤_};
 ghost use lib.ListN.{length};

@@ -1,6 +1,8 @@
 // The test of soundness, on any words.
-use crate::numbers::{lengths_below, wide};
-use crate::packets::{link_tested, packets_fit};
+use crate::numbers::lengths_below;
+use crate::numbers::wide;
+use crate::packets::link_tested;
+use crate::packets::packets_fit;
 use crate::rows::rows_tested;
 use crate::settings::settings_tested;
 ghost use mathlib.Core.Path.{_≡_};

@@ -52,7 +52,7 @@ loop-less c = omega arith
 
 -- src/moves.rt:25:5
 loop-again : tie.Need-loop-again Inv-loop μ-loop
-loop-again c = 
+loop-again c =
     let s = c .before .before .loop in
     let a = c .before .before .before .args in
     (omega arith, omega arith, down-next (a .ws .now) (s .ws) (a .from) (s .i) (omega arith) (omega arith) (s .inv .2))

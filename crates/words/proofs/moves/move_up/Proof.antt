@@ -48,7 +48,7 @@ loop-less c = omega arith
 
 -- src/moves.rt:12:5
 loop-again : tie.Need-loop-again Inv-loop μ-loop
-loop-again c = 
+loop-again c =
     let s = c .before .before .loop in
     let a = c .before .before .before .args in
     (omega arith, omega arith, up-next (a .ws .now) (s .ws) (a .to) (s .i) (s .i - 1) (omega arith) (omega arith) (omega arith) (s .inv .2))

@@ -33,7 +33,7 @@ shared-slice-read-if1 c = omega arith
 -- src/numbers.rt:35:13
 returns : tie.Need-returns Inv-loop μ-loop
 unfolding zeros
-returns c = 
+returns c =
     let s = c .before .before .before in
     let a = s .before .args in
     let i = s .loop .i in
@@ -51,18 +51,20 @@ loop-less c = omega arith
 -- src/numbers.rt:33:5
 loop-again : tie.Need-loop-again Inv-loop μ-loop
 unfolding zeros
-loop-again c = 
+loop-again c =
     let s = c .before .before .before in
     let a = s .before .args in
-    let i = s .loop .i in
-    (omega arith, omega arith,
-    sym (every-next (λ w. eqb w 0) (λ j. word (a .ws .now) j) 1 i (a .to) i (c .before .before .loop-test .taken) (eq-eqb _ 0 (c .if1 .left))) ∙
-    s .loop .inv .2)
+    let i = s .loop .i in (
+      omega arith,
+      omega arith,
+      sym (every-next (λ w. eqb w 0) (λ j. word (a .ws .now) j) 1 i (a .to) i (c .before .before .loop-test .taken) (eq-eqb _ 0 (c .if1 .left))) ∙
+          s .loop .inv .2,
+    )
 
 -- src/numbers.rt:28:1
 returns-2 : tie.Need-returns-2 Inv-loop μ-loop
 unfolding zeros
-returns-2 c = 
+returns-2 c =
     let s = c .before in
     let a = s .before .args in
     let i = s .loop .i in

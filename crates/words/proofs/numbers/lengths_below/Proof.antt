@@ -53,14 +53,15 @@ loop-less c = omega arith
 -- src/numbers.rt:49:5
 loop-again : tie.Need-loop-again Inv-loop μ-loop
 unfolding lengthsBelow
-loop-again c = 
-    (omega arith,
-    rw (add-one (c .before .before .before .loop .i), c .wide .ensures .0, c .before .before .before .loop .inv .1),
-    omega arith)
+loop-again c = (
+  omega arith,
+  rw (add-one (c .before .before .before .loop .i), c .wide .ensures .0, c .before .before .before .loop .inv .1),
+  omega arith,
+)
 
 -- src/numbers.rt:43:1
 returns : tie.Need-returns Inv-loop μ-loop
-returns c = 
+returns c =
     let e : c .before .loop .i ≡ c .before .before .before .args .p = omega arith in
     (rw (← e) (c .before .loop .inv .1), omega arith)
 

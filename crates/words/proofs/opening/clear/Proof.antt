@@ -40,11 +40,13 @@ loop-less c = omega arith
 
 -- src/opening.rt:16:5
 loop-again : tie.Need-loop-again Inv-loop μ-loop
-loop-again c = 
+loop-again c =
     let s = c .before .loop in
-    let a = c .before .before .args in
-    (omega arith, length-set (s .ws) (s .i) 0 ∙ s .inv .1,
-    rw (add-one (s .i)) (ap (λ l. set l (s .i) 0) (s .inv .2) ∙ cleared-next (a .ws .now) (s .i) (omega arith)))
+    let a = c .before .before .args in (
+      omega arith,
+      length-set (s .ws) (s .i) 0 ∙ s .inv .1,
+      rw (add-one (s .i)) (ap (λ l. set l (s .i) 0) (s .inv .2) ∙ cleared-next (a .ws .now) (s .i) (omega arith)),
+    )
 
 -- src/opening.rt:11:1
 same-length : tie.Need-same-length Inv-loop μ-loop

@@ -28,7 +28,7 @@ settings-allowed-requires c κs = search needs
 -- src/opening.rt:39:9
 returns : tie.Need-returns
 unfolding opened openingAnswer afterOpening
-returns c = 
+returns c =
     let a = c .before .before .before .before .args in
     let e : settingsAllowed (asked (a .d) (a .m) (a .factors .now)) ≡ false = sym (c .before .settings-allowed .ensures) ∙ not-true _ (c .if1 .taken) in
     simp e
@@ -36,7 +36,7 @@ returns c =
 -- src/opening.rt:42:9
 returns-2 : tie.Need-returns-2
 unfolding opened openingAnswer afterOpening
-returns-2 c = 
+returns-2 c =
     let a = c .before .before .before .before .before .args in
     let e : settingsAllowed (asked (a .d) (a .m) (a .factors .now)) ≡ true = sym (c .before .before .settings-allowed .ensures) ∙ not-false _ (c .before .if1 .left) in
     simp (e, lt-ltb _ _ (c .if2 .taken))
@@ -56,7 +56,7 @@ slice-write-ws-2 c = simp length-set (omega (arith, c .before .before .clear .ke
 -- src/opening.rt:47:13
 cast-ws : tie.Need-cast-ws
 unfolding classCount
-cast-ws c = 
+cast-ws c =
     let a = c .before .before .before .before .before .before .before .before .before .args in
     let e : settingsAllowed (asked (a .d) (a .m) (a .factors .now)) ≡ true = sym (c .before .before .before .before .before .before .settings-allowed .ensures) ∙ not-false _ (c .before .before .before .before .before .if1 .left) in
     record { fits = omega (arith, settings-facts (asked (a .d) (a .m) (a .factors .now)) e .classes-most) }
@@ -68,7 +68,7 @@ slice-write-ws-3 c = simp length-set (omega (arith, c .before .before .clear .ke
 -- src/opening.rt:48:5
 write-factors-requires : tie.Need-write-factors-requires
 unfolding classCount
-write-factors-requires c κs = 
+write-factors-requires c κs =
     let a = c .before .before .before .before .before .before .before .before .before .before .args in
     let e : settingsAllowed (asked (a .d) (a .m) (a .factors .now)) ≡ true = sym (c .before .before .before .before .before .before .before .settings-allowed .ensures) ∙ not-false _ (c .before .before .before .before .before .before .if1 .left) in
     simp length-set (omega (arith, c .before .before .before .clear .kept .0, c .before .before .before .before .before .if2 .left, settings-facts (asked (a .d) (a .m) (a .factors .now)) e .classes-most))
@@ -80,7 +80,7 @@ same-length c = simp length-set at (c .before .before .write-factors .kept .0) �
 -- src/opening.rt:35:1
 returns-3 : tie.Need-returns-3
 unfolding opened openingAnswer afterOpening classCount
-returns-3 c = 
+returns-3 c =
     let a = c .before .before .before .before .before .before .before .before .before .before .before .before .before .args in
     let s = asked (a .d) (a .m) (a .factors .now) in
     let e : settingsAllowed s ≡ true = sym (c .before .before .before .before .before .before .before .before .before .before .settings-allowed .ensures) ∙ not-false _ (c .before .before .before .before .before .before .before .before .before .if1 .left) in

@@ -51,12 +51,14 @@ loop-less c = omega arith
 
 -- src/opening.rt:28:5
 loop-again : tie.Need-loop-again Inv-loop μ-loop
-loop-again c = 
+loop-again c =
     let s = c .before .before .loop in
     let a = c .before .before .before .args in
-    let x = getD (a .factors .now) (s .i) 0 in
-    (omega arith, length-set (s .ws) (3 + s .i) x ∙ s .inv .1,
-    rw (add-one (s .i)) (ap (λ l. set l (3 + s .i) x) (s .inv .2) ∙ paste-suc (a .ws .now) 3 (a .factors .now) (s .i) 0 (omega arith) (c .before .loop-test .taken)))
+    let x = getD (a .factors .now) (s .i) 0 in (
+      omega arith,
+      length-set (s .ws) (3 + s .i) x ∙ s .inv .1,
+      rw (add-one (s .i)) (ap (λ l. set l (3 + s .i) x) (s .inv .2) ∙ paste-suc (a .ws .now) 3 (a .factors .now) (s .i) 0 (omega arith) (c .before .loop-test .taken)),
+    )
 
 -- src/opening.rt:23:1
 same-length : tie.Need-same-length Inv-loop μ-loop
@@ -64,7 +66,7 @@ same-length c = c .before .loop .inv .1
 
 -- src/opening.rt:23:1
 returns : tie.Need-returns Inv-loop μ-loop
-returns c = 
+returns c =
     let a = c .before .before .args in
     let fs = a .factors .now in
     let e : c .before .loop .i ≡ length fs = omega arith in

@@ -37,7 +37,7 @@ packet-kept-requires c κs = search needs
 -- src/packets.rt:85:9
 returns-2 : tie.Need-returns-2
 unfolding linkTested
-returns-2 c = 
+returns-2 c =
     let ws = c .before .before .before .before .before .args .ws .now in
     let e : packetKept (contents ws) (packetAt ws 207) ≡ false = sym (c .before .packet-kept .ensures) ∙ not-true _ (c .if2 .taken) in
     simp (ne-eqb _ _ (c .before .before .if1 .left), e)
@@ -49,7 +49,7 @@ shared-slice-read-result c = search needs
 -- src/packets.rt:76:1
 returns-3 : tie.Need-returns-3
 unfolding linkTested
-returns-3 c = 
+returns-3 c =
     let ws = c .before .before .before .before .before .before .args .ws .now in
     let e : packetKept (contents ws) (packetAt ws 207) ≡ true = sym (c .before .before .packet-kept .ensures) ∙ not-false _ (c .before .if2 .left) in
     simp (ne-eqb _ _ (c .before .before .before .if1 .left), e)

@@ -36,7 +36,7 @@ packet-kept-requires c κs = search needs
 -- src/packets.rt:51:9
 returns-2 : tie.Need-returns-2
 unfolding packetFits
-returns-2 c = 
+returns-2 c =
     let ws = c .before .before .before .before .before .args .ws .now in
     let at = c .before .before .before .before .before .args .at in
     let e : packetKept (contents ws) (packetAt ws at) ≡ false = sym (c .before .packet-kept .ensures) ∙ not-true _ (c .if2 .taken) in
@@ -49,7 +49,7 @@ rank-of-requires c κs = (c .before .before .before .before .before .pre, sym (c
 -- src/packets.rt:43:1
 returns-3 : tie.Need-returns-3
 unfolding packetFits packetAt
-returns-3 c = 
+returns-3 c =
     let ws = c .before .before .before .before .before .before .args .ws .now in
     let at = c .before .before .before .before .before .before .args .at in
     let e : packetKept (contents ws) (packetAt ws at) ≡ true = sym (c .before .before .packet-kept .ensures) ∙ not-false _ (c .before .if2 .left) in

@@ -35,7 +35,7 @@ is-within-requires c κs = search needs
 
 -- src/packets.rt:20:9
 returns : tie.Need-returns
-returns c = 
+returns c =
     let ws = c .before .before .before .before .before .args .ws .now in
     let at = c .before .before .before .before .before .args .at in
     let e : within 1 (word ws at) (word ws 205) ≡ false = sym (c .before .is-within .ensures) ∙ not-true _ (c .if1 .taken) in
@@ -63,7 +63,7 @@ is-within-requires-2 c κs = search needs
 
 -- src/packets.rt:24:9
 returns-2 : tie.Need-returns-2
-returns-2 c = 
+returns-2 c =
     let ws = c .before .before .before .before .before .before .before .before .before .args .ws .now in
     let at = c .before .before .before .before .before .before .before .before .before .args .at in
     let e : within 1 (word ws (at + 1)) (word ws 11) ≡ false = sym (c .before .is-within2 .ensures) ∙ not-true _ (c .if2 .taken) in
@@ -103,7 +103,7 @@ mul-is-within-4 c = search needs
 
 -- src/packets.rt:26:34
 shared-slice-read-is-within-5 : tie.Need-shared-slice-read-is-within-5
-shared-slice-read-is-within-5 c = 
+shared-slice-read-is-within-5 c =
     let f = within-facts 1 _ _ (sym (c .before .before .before .before .is-within2 .ensures) ∙ not-false _ (c .before .before .before .if2 .left)) in
     let w = c .before .wide .ensures .0 in
     let k = c .before .before .before .before .before .before .before .before .before .before .before .before .pre .0 in
@@ -115,7 +115,7 @@ is-within-requires-3 c κs = search needs
 
 -- src/packets.rt:27:9
 returns-3 : tie.Need-returns-3
-returns-3 c = 
+returns-3 c =
     let ws = c .before .before .before .before .before .before .before .before .before .before .before .before .before .before .args .ws .now in
     let at = c .before .before .before .before .before .before .before .before .before .before .before .before .before .before .args .at in
     let n = word ws (at + 1) in
@@ -143,7 +143,7 @@ shared-slice-read-result-2 c = search needs
 
 -- src/packets.rt:15:1
 returns-4 : tie.Need-returns-4
-returns-4 c = 
+returns-4 c =
     let ws = c .before .before .before .before .before .before .before .before .before .before .before .before .before .before .before .before .args .ws .now in
     let at = c .before .before .before .before .before .before .before .before .before .before .before .before .before .before .before .before .args .at in
     let n = word ws (at + 1) in

@@ -22,7 +22,7 @@ abbrev μ-loop : tie.MeasureT-loop
 
 -- src/packets.rt:64:5
 loop-holds : tie.Need-loop-holds Inv-loop μ-loop
-loop-holds c = 
+loop-holds c =
     let a = c .before .args in
     let ws = a .ws .now in
     let e : a .count - 0 ≡ a .count = omega arith in
@@ -35,12 +35,14 @@ packet-fits-requires c κs = (c .before .before .before .pre .0, omega (arith, c
 -- src/packets.rt:66:13
 returns : tie.Need-returns Inv-loop μ-loop
 unfolding packetsFit
-returns c = 
+returns c =
     let s = c .before .before .before .loop in
     let a = c .before .before .before .before .before .args in
     let ws = a .ws .now in
-    sym (sym (s .inv .2) ∙ rw (series-next (packetAt ws) 4 (s .at) (a .count) (s .i) (c .before .before .loop-test .taken),
-      sym (c .before .packet-fits .ensures) ∙ not-true _ (c .if1 .taken)))
+    sym (sym (s .inv .2) ∙ rw (
+      series-next (packetAt ws) 4 (s .at) (a .count) (s .i) (c .before .before .loop-test .taken),
+      sym (c .before .packet-fits .ensures) ∙ not-true _ (c .if1 .taken),
+    ))
 
 -- src/packets.rt:68:18
 mul-before : tie.Need-mul-before Inv-loop μ-loop
@@ -65,19 +67,19 @@ loop-less c = omega arith
 -- src/packets.rt:64:5
 loop-again : tie.Need-loop-again Inv-loop μ-loop
 unfolding packetsFit packetAt
-loop-again c = 
+loop-again c =
     let s = c .before .before .before .before .loop in
     let a = c .before .before .before .before .before .before .args in
     let ws = a .ws .now in
     let e : packetsFit (contents ws) (a .rank) (s .before) (series (packetAt ws) 4 (s .at) (a .count - s .i)) ≡
-        packetsFit (contents ws) (a .rank) (word ws (s .at)) (series (packetAt ws) 4 (s .at + 4) (a .count - (s .i + 1))) =
+    packetsFit (contents ws) (a .rank) (word ws (s .at)) (series (packetAt ws) 4 (s .at + 4) (a .count - (s .i + 1))) =
     rw (series-next (packetAt ws) 4 (s .at) (a .count) (s .i) (c .before .before .before .loop-test .taken), sym (c .before .before .packet-fits .ensures) ∙ not-false _ (c .before .if1 .left)) in
     (omega arith, omega arith, sym e ∙ s .inv .2)
 
 -- src/packets.rt:57:1
 returns-2 : tie.Need-returns-2 Inv-loop μ-loop
 unfolding packetsFit
-returns-2 c = 
+returns-2 c =
     let s = c .before .loop in
     let a = c .before .before .before .args in
     let ws = a .ws .now in

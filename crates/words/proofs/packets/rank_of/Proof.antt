@@ -42,7 +42,7 @@ mul-wide-3 c = search needs
 
 -- src/packets.rt:38:22
 shared-slice-read-wide-2 : tie.Need-shared-slice-read-wide-2
-shared-slice-read-wide-2 c = 
+shared-slice-read-wide-2 c =
     let s = c .before .before .before .before in
     let f = kept-connection (s .args .ws .now) (s .args .at) (s .pre .1) in
     let k = s .pre .0 .0 in
@@ -86,7 +86,7 @@ mul-wide-5 c = search needs
 
 -- src/packets.rt:39:37
 shared-slice-read-wide-5 : tie.Need-shared-slice-read-wide-5
-shared-slice-read-wide-5 c = 
+shared-slice-read-wide-5 c =
     let s = c .before .before .before .before .before .before .before .before .before in
     let ws = s .args .ws .now in
     let n = word ws (s .args .at + 1) in
@@ -106,7 +106,7 @@ add-result c = search needs
 
 -- src/packets.rt:33:1
 returns : tie.Need-returns
-returns c = 
+returns c =
     let s = c .before .before .before .before .before .before .before .before .before .before in
     let ws = s .args .ws .now in
     let at = s .args .at in

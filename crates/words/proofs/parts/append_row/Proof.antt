@@ -47,7 +47,7 @@ same-length c = search needs
 
 -- src/parts.rt:147:1
 returns : tie.Need-returns
-returns c = 
+returns c =
     let s = c .before .before .before .before .before .before .before in
     let ws = s .args .ws .now in
     append-become ws (c .before .before .write-row .last .0) _ (6 * (2 + c .before .before .before .wide .result)) (word ws 11 + 1) (s .pre .0) (s .pre .1) (omega (arith, c .before .before .before .wide .ensures .0)) (add-one (word ws 11))

@@ -94,13 +94,14 @@ shared-slice-read-t26 c = search needs
 -- src/parts.rt:69:1
 returns : tie.Need-returns
 unfolding standingAt
-returns c = 
+returns c =
     let s = c .before .before .before .before .before .before .before .before in
     let ws = s .args .ws .now in
     let n = s .args .n in
-    let w = c .before .before .before .before .before .before .wide .ensures .0 in
-    (connection-at ws n (s .pre .1) (s .pre .2) ∙ ap (λ m. standingAt ws (6 * (1 + m)) .asked) (sym w),
-    allowance-at ws n (s .pre .1) (s .pre .2) ∙ ap (λ m. standingAt ws (6 * (1 + m)) .allowance) (sym w))
+    let w = c .before .before .before .before .before .before .wide .ensures .0 in (
+      connection-at ws n (s .pre .1) (s .pre .2) ∙ ap (λ m. standingAt ws (6 * (1 + m)) .asked) (sym w),
+      allowance-at ws n (s .pre .1) (s .pre .2) ∙ ap (λ m. standingAt ws (6 * (1 + m)) .allowance) (sym w),
+    )
 
 pub read-row-spec : {M : Type 1} → statement M
 read-row-spec =

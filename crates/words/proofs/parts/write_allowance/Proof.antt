@@ -55,7 +55,7 @@ same-length c = search needs
 
 -- src/parts.rt:124:1
 returns : tie.Need-returns
-returns c = 
+returns c =
     let s = c .before .before in
     rw (c .wide .ensures .0) (allowance-become (s .args .ws .now) (s .args .n) (s .args .next) (s .args .credit) (s .pre .0) (s .pre .1) (s .pre .2))
 

@@ -29,7 +29,7 @@ same-length c = simp length-set at (c .before .before .write-packet .kept .0)
 
 -- src/parts.rt:99:1
 returns : tie.Need-returns
-returns c = 
+returns c =
     let g = c .before .before .before .before .before .args in
     let k = c .before .before .before .before .before .pre .0 in
     let p : Packet = record { serial = g .serial; connection = g .connection; units = g .units; arrival = g .arrival } in

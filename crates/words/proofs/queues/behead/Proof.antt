@@ -48,7 +48,7 @@ add-at c = search needs
 
 -- src/queues.rt:71:5
 move-down-requires : tie.Need-move-down-requires
-move-down-requires c κs = 
+move-down-requires c κs =
     let s = c .before .before .before .before .before .before .before .before in
     let ws = s .args .ws .now in
     let k = s .pre .0 in
@@ -74,7 +74,7 @@ slice-read-ws c = search needs
 
 -- src/queues.rt:72:23
 sub-ws : tie.Need-sub-ws
-sub-ws c = 
+sub-ws c =
     let s = c .before .before .before .before .before .before .before .before .before .before .before .before in
     let ws = s .args .ws .now in
     let k = s .pre .0 in
@@ -106,7 +106,7 @@ same-length c = search needs
 -- src/queues.rt:64:1
 returns : tie.Need-returns
 unfolding contents
-returns c = 
+returns c =
     let s = c .before .before .before .before .before .before .before .before .before .before .before .before in
     let ws = s .args .ws .now in
     let k = s .pre .0 in

@@ -56,7 +56,7 @@ add-at c = search needs
 
 -- src/queues.rt:58:5
 move-up-requires : tie.Need-move-up-requires
-move-up-requires c κs = 
+move-up-requires c κs =
     let s = c .before .before .before .before .before .before .before .before in
     let ws = s .args .ws .now in
     let k = s .pre .0 in
@@ -70,7 +70,7 @@ move-up-requires c κs =
 
 -- src/queues.rt:59:5
 write-packet-requires : tie.Need-write-packet-requires
-write-packet-requires c κs = 
+write-packet-requires c κs =
     let s = c .before .before .before .before .before .before .before .before .before .before .before .before in
     let ws = s .args .ws .now in
     let k = s .pre .0 in
@@ -96,7 +96,7 @@ slice-read-ws c = search needs
 
 -- src/queues.rt:60:23
 add-ws-2 : tie.Need-add-ws-2
-add-ws-2 c = 
+add-ws-2 c =
     let s = c .before .before .before .before .before .before .before .before .before .before .before .before .before .before .before .before in
     let ws = s .args .ws .now in
     let k = s .pre .0 in
@@ -128,7 +128,7 @@ same-length c = simp length-set (c .before .before .before .write-packet .kept .
 -- src/queues.rt:51:1
 returns : tie.Need-returns
 unfolding contents
-returns c = 
+returns c =
     let s = c .before .before .before .before .before .before .before .before .before .before .before .before .before .before .before .before in
     let ws = s .args .ws .now in
     let k = s .pre .0 in

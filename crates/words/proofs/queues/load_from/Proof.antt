@@ -20,7 +20,7 @@ use Rattle.words.proofs.queues.place_of.Reads as place-of-reads
 -- src/queues.rt:93:42
 place-of-requires : tie.Need-place-of-requires
 unfolding contents
-place-of-requires c κs = 
+place-of-requires c κs =
     let s = c .before .before in
     let ws = s .args .ws .now in
     let k = head-facts ws (s .args .tag) (s .pre .0) (s .pre .1) (s .pre .2) in
@@ -29,7 +29,7 @@ place-of-requires c κs =
 -- src/queues.rt:93:24
 lengths-below-requires : tie.Need-lengths-below-requires
 unfolding contents
-lengths-below-requires c κs = 
+lengths-below-requires c κs =
     let s = c .before .before .before in
     let ws = s .args .ws .now in
     let k = head-facts ws (s .args .tag) (s .pre .0) (s .pre .1) (s .pre .2) in
@@ -50,7 +50,7 @@ mul-serial c = search needs
 -- src/queues.rt:94:18
 slice-read-serial : tie.Need-slice-read-serial
 unfolding contents
-slice-read-serial c = 
+slice-read-serial c =
     let s = c .before .before .before .before .before in
     let ws = s .args .ws .now in
     let k = head-facts ws (s .args .tag) (s .pre .0) (s .pre .1) (s .pre .2) in
@@ -71,7 +71,7 @@ mul-connection c = search needs
 -- src/queues.rt:95:22
 slice-read-connection : tie.Need-slice-read-connection
 unfolding contents
-slice-read-connection c = 
+slice-read-connection c =
     let s = c .before .before .before .before .before .before in
     let ws = s .args .ws .now in
     let k = head-facts ws (s .args .tag) (s .pre .0) (s .pre .1) (s .pre .2) in
@@ -92,7 +92,7 @@ mul-units c = search needs
 -- src/queues.rt:96:17
 slice-read-units : tie.Need-slice-read-units
 unfolding contents
-slice-read-units c = 
+slice-read-units c =
     let s = c .before .before .before .before .before .before .before in
     let ws = s .args .ws .now in
     let k = head-facts ws (s .args .tag) (s .pre .0) (s .pre .1) (s .pre .2) in
@@ -113,7 +113,7 @@ mul-arrival c = search needs
 -- src/queues.rt:97:19
 slice-read-arrival : tie.Need-slice-read-arrival
 unfolding contents
-slice-read-arrival c = 
+slice-read-arrival c =
     let s = c .before .before .before .before .before .before .before .before in
     let ws = s .args .ws .now in
     let k = head-facts ws (s .args .tag) (s .pre .0) (s .pre .1) (s .pre .2) in
@@ -126,7 +126,7 @@ slice-read-arrival c =
 -- src/queues.rt:98:5
 behead-requires : tie.Need-behead-requires
 unfolding contents
-behead-requires c κs = 
+behead-requires c κs =
     let s = c .before .before .before .before .before .before .before .before .before in
     let ws = s .args .ws .now in
     let k = head-facts ws (s .args .tag) (s .pre .0) (s .pre .1) (s .pre .2) in
@@ -135,7 +135,7 @@ behead-requires c κs =
 -- src/queues.rt:99:5
 write-link-requires : tie.Need-write-link-requires
 unfolding contents
-write-link-requires c κs = 
+write-link-requires c κs =
     let s = c .before .before .before .before .before .before .before .before .before .before .before .before .before in
     let ws = s .args .ws .now in
     let k = head-facts ws (s .args .tag) (s .pre .0) (s .pre .1) (s .pre .2) in
@@ -153,7 +153,7 @@ same-length c = search needs
 -- src/queues.rt:89:1
 returns : tie.Need-returns
 unfolding contents packetAt
-returns c = 
+returns c =
     let s = c .before .before .before .before .before .before .before .before .before .before .before .before .before .before .before .before in
     let ws = s .args .ws .now in
     let k = head-facts ws (s .args .tag) (s .pre .0) (s .pre .1) (s .pre .2) in

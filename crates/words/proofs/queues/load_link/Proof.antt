@@ -37,7 +37,7 @@ same-length c = search needs
 
 -- src/queues.rt:112:9
 returns-2 : tie.Need-returns-2
-returns-2 c = 
+returns-2 c =
     let s = c .before .before .before .before .before .before .before .before in
     let ws = s .args .ws .now in
     idle-become ws (sound-fitting ws (s .pre)) (c .before .before .before .before .before .if1 .left) (omega (arith, c .if2 .taken, c .before .largest-factor .ensures .0, c .before .before .before .lowest-tag .ensures .0))
@@ -45,7 +45,7 @@ returns-2 c =
 -- src/queues.rt:114:5
 load-from-requires : tie.Need-load-from-requires
 unfolding contents
-load-from-requires c κs = 
+load-from-requires c κs =
     let s = c .before .before .before .before .before .before .before .before .before in
     (s .pre, c .before .before .before .before .lowest-tag .ensures .0, omega (arith, c .before .if2 .left, c .before .before .largest-factor .ensures .0), c .before .before .before .before .before .before .if1 .left)
 

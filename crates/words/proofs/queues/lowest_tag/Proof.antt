@@ -37,7 +37,7 @@ add-count c = omega (arith, c .largest-factor .ensures .1)
 -- src/queues.rt:41:5
 loop-holds : tie.Need-loop-holds Inv-loop μ-loop
 unfolding queuesAt
-loop-holds c = 
+loop-holds c =
     let ws = c .before .before .args .ws .now in
     let e = c .largest-factor .ensures .0 in
     let n : c .largest-factor .result + 1 - 0 ≡ suc (largestFactor (settingsAt ws)) = omega arith in
@@ -52,7 +52,7 @@ waiting-at-requires c κs = (c .before .before .before .before .pre, omega (arit
 -- src/queues.rt:43:13
 returns : tie.Need-returns Inv-loop μ-loop
 unfolding contents
-returns c = 
+returns c =
     let s = c .before .before .before .loop in
     let ws = c .before .before .before .before .before .before .args .ws .now in
     let f : ℕ → List Packet = λ k. queueAt ws (placeOf (turnsAt ws) k) in
@@ -72,7 +72,7 @@ loop-less c = omega arith
 -- src/queues.rt:41:5
 loop-again : tie.Need-loop-again Inv-loop μ-loop
 unfolding contents
-loop-again c = 
+loop-again c =
     let s = c .before .before .before .loop in
     let ws = c .before .before .before .before .before .before .args .ws .now in
     let f : ℕ → List Packet = λ k. queueAt ws (placeOf (turnsAt ws) k) in
@@ -84,7 +84,7 @@ loop-again c =
 -- src/queues.rt:35:1
 returns-2 : tie.Need-returns-2 Inv-loop μ-loop
 unfolding contents
-returns-2 c = 
+returns-2 c =
     let s = c .before .loop in
     let ws = c .before .before .before .before .args .ws .now in
     let f : ℕ → List Packet = λ k. queueAt ws (placeOf (turnsAt ws) k) in

@@ -22,7 +22,7 @@ add-result c = search needs
 -- src/queues.rt:19:1
 returns : tie.Need-returns
 unfolding placeOf
-returns c = 
+returns c =
     let ws = c .before .before .args .ws .now in
     let e = ap (λ t. (t + c .before .before .args .tag) % 64) (c .turns .ensures .0) in
     (e, omega (arith, e, place-below (turnsAt ws) (c .before .before .args .tag)))

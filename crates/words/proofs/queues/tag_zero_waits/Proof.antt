@@ -28,7 +28,7 @@ shared-slice-read-if1 c = search needs
 -- src/queues.rt:83:9
 returns : tie.Need-returns
 unfolding queuesTaken
-returns c = 
+returns c =
     let ws = c .before .before .before .before .args .ws .now in
     ap (ltb 1) (c .before .before .waiting-at .ensures) ∙ sym (zero-waits-taken (contents ws .queues)) ∙
     sym (ap (λ l. tagZeroWaits (queuesTaken l (contents ws .queues))) (link-free ws (c .if1 .taken)))
@@ -36,7 +36,7 @@ returns c =
 -- src/queues.rt:77:1
 returns-2 : tie.Need-returns-2
 unfolding queuesTaken
-returns-2 c = 
+returns-2 c =
     let ws = c .before .before .before .before .args .ws .now in
     ap (ltb 0) (c .before .before .waiting-at .ensures) ∙ sym (zero-waits (contents ws .queues)) ∙
     sym (ap (λ l. tagZeroWaits (queuesTaken l (contents ws .queues))) (link-busy ws (c .if1 .left)))

@@ -36,7 +36,7 @@ wide-requires c κs = search needs
 -- src/queues.rt:27:1
 returns : tie.Need-returns
 unfolding contents
-returns c = 
+returns c =
     let s = c .before .before .before .before in
     let ws = s .args .ws .now in
     c .wide .ensures .0 ∙ ap (λ p. word ws (211 + p)) (c .before .before .place-of .ensures .0) ∙ sym (waiting-length ws (s .args .tag) (s .pre .1))

@@ -40,7 +40,7 @@ sub-result c = search needs
 -- src/rows.rt:14:1
 returns-5 : tie.Need-returns-5
 unfolding allowanceKept within
-returns-5 c = 
+returns-5 c =
     let a = c .before .before .before .before .args in
     let l : a .counter < a .next = c .if4 .left in
     leb-same (a .next - a .counter) (a .period) (a .next) (a .counter + a .period) (λ h. omega arith) (λ h. omega arith) ∙

@@ -33,7 +33,7 @@ is-within-requires c κs = search needs
 
 -- src/rows.rt:38:9
 returns : tie.Need-returns
-returns c = 
+returns c =
     let ws = c .before .before .before .before .before .args .ws .now in
     let at = c .before .before .before .before .before .args .at in
     let e : within 1 (word ws at) (word ws 2) ≡ false = sym (c .before .is-within .ensures) ∙ not-true _ (c .if1 .taken) in
@@ -57,7 +57,7 @@ is-within-requires-2 c κs = search needs
 
 -- src/rows.rt:41:9
 returns-2 : tie.Need-returns-2
-returns-2 c = 
+returns-2 c =
     let ws = c .before .before .before .before .before .before .before .before .args .ws .now in
     let at = c .before .before .before .before .before .before .before .before .args .at in
     let e : within 1 (word ws (at + 1)) 64 ≡ false = sym (c .before .is-within2 .ensures) ∙ not-true _ (c .if2 .taken) in
@@ -81,7 +81,7 @@ is-within-requires-3 c κs = search needs
 
 -- src/rows.rt:45:9
 returns-3 : tie.Need-returns-3
-returns-3 c = 
+returns-3 c =
     let ws = c .before .before .before .before .before .before .before .before .before .before .before .args .ws .now in
     let at = c .before .before .before .before .before .before .before .before .before .before .before .args .at in
     let e : within 1 (word ws (at + 2)) 64 ≡ false = sym (c .before .is-within3 .ensures) ∙ not-true _ (c .if3 .taken) in
@@ -109,7 +109,7 @@ is-within-requires-4 c κs = search needs
 
 -- src/rows.rt:50:9
 returns-4 : tie.Need-returns-4
-returns-4 c = 
+returns-4 c =
     let ws = c .before .before .before .before .before .before .before .before .before .before .before .before .before .before .before .args .ws .now in
     let at = c .before .before .before .before .before .before .before .before .before .before .before .before .before .before .before .args .at in
     let e : within 1 (word ws (at + 3)) (word ws 1) ≡ false = sym (c .before .is-within4 .ensures) ∙ not-true _ (c .if4 .taken) in
@@ -121,7 +121,7 @@ rem-if5 c = within-facts 1 _ _ (sym (c .before .is-within4 .ensures) ∙ not-fal
 
 -- src/rows.rt:53:9
 returns-5 : tie.Need-returns-5
-returns-5 c = 
+returns-5 c =
     let ws = c .before .before .before .before .before .before .before .before .before .before .before .before .before .before .before .before .args .ws .now in
     let at = c .before .before .before .before .before .before .before .before .before .before .before .before .before .before .before .before .args .at in
     let e : eqb (word ws 1 % word ws (at + 3)) 0 ≡ false = ne-eqb _ 0 (c .if5 .taken) in
@@ -161,7 +161,7 @@ allowance-kept-requires c κs = search needs
 
 -- src/rows.rt:33:1
 returns-6 : tie.Need-returns-6
-returns-6 c = 
+returns-6 c =
     let ws = c .before .before .before .before .before .before .before .before .before .before .before .before .before .before .before .before .before .before .before .before .args .ws .now in
     let at = c .before .before .before .before .before .before .before .before .before .before .before .before .before .before .before .before .before .before .before .before .args .at in
     let a : within 1 (word ws at) (word ws 2) ≡ true = sym (c .before .before .before .before .before .before .before .before .before .before .before .before .before .before .before .before .is-within .ensures) ∙ not-false _ (c .before .before .before .before .before .before .before .before .before .before .before .before .before .before .before .if1 .left) in

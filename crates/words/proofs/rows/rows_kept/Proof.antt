@@ -33,7 +33,7 @@ wide-requires c κs = search needs
 -- src/rows.rt:66:5
 loop-holds : tie.Need-loop-holds Inv-loop μ-loop
 unfolding standings
-loop-holds c = 
+loop-holds c =
     let ws = c .before .before .before .args .ws .now in
     let e : c .wide .result - 0 ≡ word ws 11 = omega arith in
     (omega arith, omega arith, omega arith, ap (λ n. every (rowKept ws) (series (standingAt ws) 6 12 n)) e)
@@ -44,7 +44,7 @@ row-kept-requires c κs = omega arith
 
 -- src/rows.rt:68:13
 returns : tie.Need-returns Inv-loop μ-loop
-returns c = 
+returns c =
     let s = c .before .before .before .loop in
     let ws = c .before .before .before .before .before .before .before .args .ws .now in
     sym (sym (s .inv .3) ∙ every-stop (rowKept ws) (standingAt ws) 6 (s .at) (c .before .before .before .before .wide .result) (s .i) (c .before .before .loop-test .taken)
@@ -64,16 +64,19 @@ loop-less c = omega arith
 
 -- src/rows.rt:66:5
 loop-again : tie.Need-loop-again Inv-loop μ-loop
-loop-again c = 
+loop-again c =
     let s = c .before .before .before .loop in
-    let ws = c .before .before .before .before .before .before .before .args .ws .now in
-    (omega arith, omega arith, omega arith,
-    sym (every-next (rowKept ws) (standingAt ws) 6 (s .at) (c .before .before .before .before .wide .result) (s .i) (c .before .before .loop-test .taken)
-    (sym (c .before .row-kept .ensures) ∙ not-false _ (c .if1 .left))) ∙ s .inv .3)
+    let ws = c .before .before .before .before .before .before .before .args .ws .now in (
+      omega arith,
+      omega arith,
+      omega arith,
+      sym (every-next (rowKept ws) (standingAt ws) 6 (s .at) (c .before .before .before .before .wide .result) (s .i) (c .before .before .loop-test .taken)
+          (sym (c .before .row-kept .ensures) ∙ not-false _ (c .if1 .left))) ∙ s .inv .3,
+    )
 
 -- src/rows.rt:59:1
 returns-2 : tie.Need-returns-2 Inv-loop μ-loop
-returns-2 c = 
+returns-2 c =
     let s = c .before .loop in
     let ws = c .before .before .before .before .before .args .ws .now in
     sym (sym (s .inv .3) ∙ every-end (rowKept ws) (standingAt ws) 6 (s .at) (c .before .before .wide .result) (s .i) (c .loop-test .left))

@@ -34,7 +34,7 @@ rows-kept-requires c κs = search needs
 -- src/rows.rt:85:9
 returns-2 : tie.Need-returns-2
 unfolding rowsTested
-returns-2 c = 
+returns-2 c =
     let ws = c .before .before .before .before .before .args .ws .now in
     let e : every (rowKept ws) (standings ws) ≡ false = sym (c .before .rows-kept .ensures) ∙ not-true _ (c .if2 .taken) in
     simp (e, and-false)
@@ -62,7 +62,7 @@ are-zero-requires c κs = search needs
 -- src/rows.rt:77:1
 returns-3 : tie.Need-returns-3
 unfolding rowsTested
-returns-3 c = 
+returns-3 c =
     let ws = c .before .before .before .before .before .before .before .before .args .ws .now in
     let e : every (rowKept ws) (standings ws) ≡ true = sym (c .before .before .before .before .rows-kept .ensures) ∙ not-false _ (c .before .before .before .if2 .left) in
     let n = c .before .wide .ensures .0 in

@@ -35,7 +35,7 @@ shared-slice-read-if1 c = omega arith
 -- src/settings.rt:18:13
 returns : tie.Need-returns Inv-loop μ-loop
 unfolding risingAbove
-returns c = 
+returns c =
     let s = c .before .before .before in
     let fs = s .before .args .factors .now in
     sym (sym (s .loop .inv .1) ∙ rw (drop-cons fs (s .loop .i) 0 (c .before .before .loop-test .taken), le-ltb _ _ (c .if1 .taken)))
@@ -59,7 +59,7 @@ loop-less c = omega arith
 -- src/settings.rt:16:5
 loop-again : tie.Need-loop-again Inv-loop μ-loop
 unfolding risingAbove
-loop-again c = 
+loop-again c =
     let s = c .before .before .before .before in
     let fs = s .before .args .factors .now in
     let i = s .loop .i in
@@ -70,7 +70,7 @@ loop-again c =
 -- src/settings.rt:11:1
 returns-2 : tie.Need-returns-2 Inv-loop μ-loop
 unfolding risingAbove
-returns-2 c = 
+returns-2 c =
     let s = c .before in
     let fs = s .before .args .factors .now in
     sym (sym (s .loop .inv .1) ∙ ap (risingAbove (s .loop .low)) (drop-of-length-le fs {i = s .loop .i} (c .loop-test .left)))

@@ -23,7 +23,7 @@ is-within-requires c κs = search needs
 
 -- src/settings.rt:31:9
 returns : tie.Need-returns
-returns c = 
+returns c =
     let a = c .before .before .before .args in
     let e : within 1 (a .d) 256 ≡ false = sym (c .before .is-within .ensures) ∙ not-true _ (c .if1 .taken) in
     sym (settings-parts (a .d) (a .m) (a .factors .now) ∙ simp (e, and-false))
@@ -34,21 +34,21 @@ is-within-requires-2 c κs = search needs
 
 -- src/settings.rt:34:9
 returns-2 : tie.Need-returns-2
-returns-2 c = 
+returns-2 c =
     let a = c .before .before .before .before .before .args in
     let e : within 1 (a .m) 4096 ≡ false = sym (c .before .is-within2 .ensures) ∙ not-true _ (c .if2 .taken) in
     sym (settings-parts (a .d) (a .m) (a .factors .now) ∙ simp (e, and-false))
 
 -- src/settings.rt:38:9
 returns-3 : tie.Need-returns-3
-returns-3 c = 
+returns-3 c =
     let a = c .before .before .before .before .before .before .args in
     let e : leb 1 (length (a .factors .now)) ≡ false = lt-leb _ _ (c .if3 .taken) in
     sym (settings-parts (a .d) (a .m) (a .factors .now) ∙ simp (e, and-false))
 
 -- src/settings.rt:41:9
 returns-4 : tie.Need-returns-4
-returns-4 c = 
+returns-4 c =
     let a = c .before .before .before .before .before .before .before .args in
     let e : leb (length (a .factors .now)) 8 ≡ false = lt-leb _ _ (c .if4 .taken) in
     sym (settings-parts (a .d) (a .m) (a .factors .now) ∙ simp (e, and-false))
@@ -59,7 +59,7 @@ factors-rise-requires c κs = search needs
 
 -- src/settings.rt:44:9
 returns-5 : tie.Need-returns-5
-returns-5 c = 
+returns-5 c =
     let a = c .before .before .before .before .before .before .before .before .before .args in
     let e : risingAbove 0 (a .factors .now) ≡ false = sym (c .before .factors-rise .ensures) ∙ not-true _ (c .if5 .taken) in
     sym (settings-parts (a .d) (a .m) (a .factors .now) ∙ simp (e, and-false))
@@ -74,21 +74,21 @@ shared-slice-read-last c = search needs
 
 -- src/settings.rt:48:9
 returns-6 : tie.Need-returns-6
-returns-6 c = 
+returns-6 c =
     let a = c .before .before .before .before .before .before .before .before .before .before .before .args in
     let e : leb (getD (a .factors .now) (length (a .factors .now) - 1) 0) 63 ≡ false = lt-leb _ _ (c .if6 .taken) in
     sym (settings-parts (a .d) (a .m) (a .factors .now) ∙ simp (e, and-false))
 
 -- src/settings.rt:50:5
 mul-result : tie.Need-mul-result
-mul-result c = 
+mul-result c =
     let a = c .before .before .before .before .before .before .before .before .before .before .before .args in
     let f = within-facts 1 (a .d) 256 (sym (c .before .before .before .before .before .before .before .before .before .is-within .ensures) ∙ not-false _ (c .before .before .before .before .before .before .before .before .if1 .left)) in
     record { fits = omega (arith, mul-le-mul-right (a .d) (c .if6 .left)) }
 
 -- src/settings.rt:27:1
 returns-7 : tie.Need-returns-7
-returns-7 c = 
+returns-7 c =
     let a = c .before .before .before .before .before .before .before .before .before .before .before .args in
     let fs = a .factors .now in
     let e1 : within 1 (a .d) 256 ≡ true = sym (c .before .before .before .before .before .before .before .before .before .is-within .ensures) ∙ not-false _ (c .before .before .before .before .before .before .before .before .if1 .left) in

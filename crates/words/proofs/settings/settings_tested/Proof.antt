@@ -32,7 +32,7 @@ wide-requires c κs = search needs
 -- src/settings.rt:60:9
 returns : tie.Need-returns
 unfolding settingsTested
-returns c = 
+returns c =
     let ws = c .before .before .before .before .args .ws .now in
     let e : leb (word ws 2) 8 ≡ false = lt-leb (word ws 2) 8 (omega (arith, c .before .wide .ensures .0)) in
     simp e
@@ -68,7 +68,7 @@ settings-allowed-requires c κs = search needs
 -- src/settings.rt:64:9
 returns-2 : tie.Need-returns-2
 unfolding settingsTested settingsAt
-returns-2 c = 
+returns-2 c =
     let ws = c .before .before .before .before .before .before .before .before .before .args .ws .now in
     let n : 3 + c .before .before .before .before .before .before .wide .result - 3 ≡ word ws 2 = omega (arith, c .before .before .before .before .before .before .wide .ensures .0) in
     let s : take (3 + c .before .before .before .before .before .before .wide .result - 3) (drop 3 ws) ≡ series (λ i. word ws i) 1 3 (word ws 2) =
@@ -84,7 +84,7 @@ are-zero-requires c κs = search needs
 -- src/settings.rt:54:1
 returns-3 : tie.Need-returns-3
 unfolding settingsTested settingsAt
-returns-3 c = 
+returns-3 c =
     let ws = c .before .before .before .before .before .before .before .before .before .before .args .ws .now in
     let w = c .before .before .before .before .before .before .before .wide .ensures .0 in
     let n : 3 + c .before .before .before .before .before .before .before .wide .result - 3 ≡ word ws 2 = omega arith in

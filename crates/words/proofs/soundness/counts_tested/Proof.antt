@@ -33,7 +33,7 @@ lengths-below-requires c κs = search needs
 -- src/soundness.rt:26:9
 returns-2 : tie.Need-returns-2
 unfolding countsTested
-returns-2 c = 
+returns-2 c =
     let ws = c .before .before .before .before .before .args .ws .now in
     let e : leb (lengthsBelow ws 64) 1024 ≡ false = lt-leb (lengthsBelow ws 64) 1024 (omega (arith, c .before .lengths-below .ensures .0)) in
     simp (e, and-false)
@@ -65,7 +65,7 @@ wide-requires-2 c κs = search needs
 -- src/soundness.rt:30:9
 returns-3 : tie.Need-returns-3
 unfolding countsTested
-returns-3 c = 
+returns-3 c =
     let ws = c .before .before .before .before .before .before .before .before .before .before .before .args .ws .now in
     let n = c .before .before .before .before .before .before .before .lengths-below .ensures .0 in
     let a : leb (word ws 204) 4000000000 ≡ true = le-leb _ _ (c .before .before .before .before .before .before .before .before .if1 .left) in
@@ -88,7 +88,7 @@ add-result c = search needs
 -- src/soundness.rt:17:1
 returns-4 : tie.Need-returns-4
 unfolding countsTested
-returns-4 c = 
+returns-4 c =
     let ws = c .before .before .before .before .before .before .before .before .before .before .before .args .ws .now in
     let n = c .before .before .before .before .before .before .before .lengths-below .ensures .0 in
     let a : leb (word ws 204) 4000000000 ≡ true = le-leb _ _ (c .before .before .before .before .before .before .before .before .if1 .left) in

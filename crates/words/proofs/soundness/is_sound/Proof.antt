@@ -24,7 +24,7 @@ use Rattle.words.proofs.soundness.queues_tested.Reads as queues-tested-
 -- src/soundness.rt:88:9
 returns : tie.Need-returns
 unfolding tested
-returns c = 
+returns c =
     let ws = c .before .before .args .ws .now in
     sym (sym (tested-sound ws) ∙ simp (lt-leb _ _ (c .if1 .taken)))
 
@@ -35,7 +35,7 @@ settings-tested-requires c κs = search needs
 -- src/soundness.rt:91:9
 returns-2 : tie.Need-returns-2
 unfolding tested
-returns-2 c = 
+returns-2 c =
     let ws = c .before .before .before .before .args .ws .now in
     let e : settingsTested ws ≡ false = sym (c .before .settings-tested .ensures) ∙ not-true _ (c .if2 .taken) in
     sym (sym (tested-sound ws) ∙ simp (e, and-false))
@@ -47,7 +47,7 @@ rows-tested-requires c κs = search needs
 -- src/soundness.rt:94:9
 returns-3 : tie.Need-returns-3
 unfolding tested
-returns-3 c = 
+returns-3 c =
     let ws = c .before .before .before .before .before .before .args .ws .now in
     let e : rowsTested ws ≡ false = sym (c .before .rows-tested .ensures) ∙ not-true _ (c .if3 .taken) in
     sym (sym (tested-sound ws) ∙ simp (e, and-false))
@@ -59,21 +59,21 @@ counts-tested-requires c κs = search needs
 -- src/soundness.rt:97:9
 returns-4 : tie.Need-returns-4
 unfolding tested
-returns-4 c = 
+returns-4 c =
     let ws = c .before .before .before .before .before .before .before .before .args .ws .now in
     let e : countsTested ws ≡ false = sym (c .before .counts-tested .ensures) ∙ not-true _ (c .if4 .taken) in
     sym (sym (tested-sound ws) ∙ simp (e, and-false))
 
 -- src/soundness.rt:99:9
 link-tested-requires : tie.Need-link-tested-requires
-link-tested-requires c κs = 
+link-tested-requires c κs =
     let ws = c .before .before .before .before .before .before .before .before .args .ws .now in
     tables-tested ws (c .before .before .before .before .before .before .if1 .left) (sym (c .before .before .before .before .before .settings-tested .ensures) ∙ not-false _ (c .before .before .before .before .if2 .left)) (sym (c .before .before .before .rows-tested .ensures) ∙ not-false _ (c .before .before .if3 .left))
 
 -- src/soundness.rt:100:9
 returns-5 : tie.Need-returns-5
 unfolding tested
-returns-5 c = 
+returns-5 c =
     let ws = c .before .before .before .before .before .before .before .before .before .before .args .ws .now in
     let e : linkTested ws ≡ false = sym (c .before .link-tested .ensures) ∙ not-true _ (c .if5 .taken) in
     sym (sym (tested-sound ws) ∙ simp (e, and-false))
@@ -81,17 +81,18 @@ returns-5 c =
 -- src/soundness.rt:102:5
 queues-tested-requires : tie.Need-queues-tested-requires
 unfolding countsTested
-queues-tested-requires c κs = 
+queues-tested-requires c κs =
     let ws = c .before .before .before .before .before .before .before .before .before .before .args .ws .now in
     let t = sym (c .before .before .before .counts-tested .ensures) ∙ not-false _ (c .before .before .if4 .left) in
-    let a = and-eq-true-iff (leb (word ws 204) 4000000000 && leb (lengthsBelow ws 64) 1024) _ .0 t in
-    (tables-tested ws (c .before .before .before .before .before .before .before .before .if1 .left) (sym (c .before .before .before .before .before .before .before .settings-tested .ensures) ∙ not-false _ (c .before .before .before .before .before .before .if2 .left)) (sym (c .before .before .before .before .before .rows-tested .ensures) ∙ not-false _ (c .before .before .before .before .if3 .left)),
-    leb-true (lengthsBelow ws 64) 1024 (and-eq-true-iff (leb (word ws 204) 4000000000) (leb (lengthsBelow ws 64) 1024) .0 (a .0) .1))
+    let a = and-eq-true-iff (leb (word ws 204) 4000000000 && leb (lengthsBelow ws 64) 1024) _ .0 t in (
+      tables-tested ws (c .before .before .before .before .before .before .before .before .if1 .left) (sym (c .before .before .before .before .before .before .before .settings-tested .ensures) ∙ not-false _ (c .before .before .before .before .before .before .if2 .left)) (sym (c .before .before .before .before .before .rows-tested .ensures) ∙ not-false _ (c .before .before .before .before .if3 .left)),
+      leb-true (lengthsBelow ws 64) 1024 (and-eq-true-iff (leb (word ws 204) 4000000000) (leb (lengthsBelow ws 64) 1024) .0 (a .0) .1),
+    )
 
 -- src/soundness.rt:84:1
 returns-6 : tie.Need-returns-6
 unfolding tested
-returns-6 c = 
+returns-6 c =
     let ws = c .before .before .before .before .before .before .before .before .before .before .before .args .ws .now in
     let l : leb 4371 (length ws) ≡ true = le-leb _ _ (c .before .before .before .before .before .before .before .before .before .if1 .left) in
     let s : settingsTested ws ≡ true = sym (c .before .before .before .before .before .before .before .before .settings-tested .ensures) ∙ not-false _ (c .before .before .before .before .before .before .before .if2 .left) in

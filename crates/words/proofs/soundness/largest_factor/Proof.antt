@@ -36,7 +36,7 @@ wide-requires-2 c κs = search needs
 
 -- src/soundness.rt:44:1
 returns : tie.Need-returns
-returns c = 
+returns c =
     let s = c .before .before .before .before .before in
     let ws = s .args .ws .now in
     (c .wide2 .ensures .0 ∙ ap (λ n. word ws (2 + n)) (c .before .before .wide .ensures .0) ∙ sym (largest-at ws (s .pre .1)), c .wide2 .ensures .1)

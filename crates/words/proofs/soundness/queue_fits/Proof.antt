@@ -63,7 +63,7 @@ packets-fit-requires c κs = search needs
 -- src/soundness.rt:52:1
 returns : tie.Need-returns
 unfolding queueFits queueAt tagOf
-returns c = 
+returns c =
     let s = c .before .before .before .before .before .before .before in
     let ws = s .args .ws .now in
     let place = s .args .place in
@@ -80,7 +80,7 @@ returns c =
 -- src/soundness.rt:52:1
 returns-2 : tie.Need-returns-2
 unfolding queueFits tagOf
-returns-2 c = 
+returns-2 c =
     let s = c .before .before .before .before .before .before in
     let ws = s .args .ws .now in
     let place = s .args .place in

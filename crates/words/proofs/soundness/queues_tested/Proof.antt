@@ -34,7 +34,7 @@ loop-holds c = (omega arith, refl, refl)
 -- src/soundness.rt:74:13
 queue-fits-requires : tie.Need-queue-fits-requires Inv-loop μ-loop
 unfolding startOf
-queue-fits-requires c κs = 
+queue-fits-requires c κs =
     let s = c .before .before .before in
     let k = s .pre .0 in
     let l = lengths-most (s .args .ws .now) (c .before .loop .place) 64 (c .loop-test .taken) in
@@ -43,7 +43,7 @@ queue-fits-requires c κs =
 -- src/soundness.rt:75:13
 returns : tie.Need-returns Inv-loop μ-loop
 unfolding queuesTested
-returns c = 
+returns c =
     let ws = c .before .before .before .before .before .args .ws .now in
     sym (everyBelow-stop (λ p. queueFits ws (tagOf (turnsAt ws) p) (queueAt ws p)) 64 (c .before .before .before .loop .place) (c .before .before .loop-test .taken)
     (sym (c .before .queue-fits .ensures) ∙ not-true _ (c .if1 .taken)))
@@ -66,7 +66,7 @@ wide-requires c κs = search needs
 
 -- src/soundness.rt:77:15
 mul-at : tie.Need-mul-at Inv-loop μ-loop
-mul-at c = 
+mul-at c =
     let s = c .before .before .before .before .before .before .before in
     let l = lengths-most (s .args .ws .now) (c .before .before .before .before .before .loop .place) 64 (c .before .before .before .before .loop-test .taken) in
     omega (arith, s .pre .1, c .wide .ensures .0)
@@ -74,7 +74,7 @@ mul-at c =
 -- src/soundness.rt:77:9
 add-at : tie.Need-add-at Inv-loop μ-loop
 unfolding startOf
-add-at c = 
+add-at c =
     let s = c .before .before .before .before .before .before .before in
     let l = lengths-most (s .args .ws .now) (c .before .before .before .before .before .loop .place) 64 (c .before .before .before .before .loop-test .taken) in
     omega (arith, s .pre .1, c .wide .ensures .0, c .before .before .before .before .before .loop .inv .1)
@@ -90,7 +90,7 @@ loop-less c = omega arith
 -- src/soundness.rt:73:5
 loop-again : tie.Need-loop-again Inv-loop μ-loop
 unfolding startOf lengthsBelow everyBelow
-loop-again c = 
+loop-again c =
     let ws = c .before .before .before .before .before .before .before .args .ws .now in
     let p = c .before .before .before .before .before .loop .place in
     let test : ℕ → Bool = λ p. queueFits ws (tagOf (turnsAt ws) p) (queueAt ws p) in
@@ -101,7 +101,7 @@ loop-again c =
 -- src/soundness.rt:67:1
 returns-2 : tie.Need-returns-2 Inv-loop μ-loop
 unfolding queuesTested
-returns-2 c = 
+returns-2 c =
     let ws = c .before .before .before .args .ws .now in
     let e : c .before .loop .place ≡ 64 = omega arith in
     sym (sym (ap (everyBelow (λ p. queueFits ws (tagOf (turnsAt ws) p) (queueAt ws p))) e) ∙ c .before .loop .inv .2)
