@@ -1,18 +1,15 @@
+-- `words::parts::class_count` meets its contract.
 use Rattle.words.proofs.PutContents.{class-count}
 use Rattle.meaning.specs.Numbers.{classCount}
-use Rattle.words.specs.Contents.{contents, settingsAt}
-use mathlib.Core.Path.{_≡_, refl, sym, ap, _∙_}
+use Rattle.words.specs.Contents.{contents}
+use mathlib.Core.Path.{sym}
 use borrow.Author.Needs.{needs}
 use Rattle.words.proofs.parts.class_count.Statement.{statement}
 use Rattle.words.proofs.parts.class_count.Tie as tie
-use Rattle.words.proofs.parts.class_count.Reads as reads
-use Rattle.words.proofs.parts.class_count.Lts as lts
 
--- src/parts.rt:178:5
 shared-slice-read-result : tie.Need-shared-slice-read-result
 shared-slice-read-result c = search needs
 
--- src/parts.rt:174:1
 returns : tie.Need-returns
 unfolding contents classCount
 returns c = (sym (class-count (c .before .args .ws .now)), c .before .pre .classes)
