@@ -95,10 +95,6 @@ pub length-places : (box : Box) → length (byPlace box) ≡ 64
 unfolding byPlace
 length-places box = length-series (λ p. getD (box .queues) (tagOf (turnsOf box) p) []) 1 0 64
 
--- one part after another
-split : (ws a b : List ℕ) (i n : ℕ) → drop i ws ≡ a ++ b → length a ≡ n → drop i ws ≡ a ++ drop (i + n) ws
-split ws a b i n e l = e ∙ ap (λ t. a ++ t) (sym (after-part ws a b i n e l))
-
 put-parts : (box : Box) (ws : List ℕ) → Puttable box → Parts box (put box ws)
 unfolding put image
 put-parts box ws k =

@@ -11,10 +11,6 @@ use borrow.Author.Tests.{lt-ltb}
 use Rattle.meaning.specs.Queues.{joinTail, lowestHead, withoutLowestHead, tagZeroWaits}
 use Rattle.words.specs.Changes.{lowestTag}
 
-pub length-none : {A : Type 0} (l : List A) → length l ≡ 0 → l ≡ []
-length-none [] e = refl
-length-none (x ∷ l) e = absurd (omega arith)
-
 module _ {A : Type 0} where
   lowest-empty : (q : List A) (qs : List (List A)) → length q ≡ 0 → lowestTag (q ∷ qs) ≡ suc (lowestTag qs)
   unfolding lowestTag

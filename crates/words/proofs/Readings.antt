@@ -1,5 +1,5 @@
 -- What a caller reads of the contents, as the words that the inner functions ask about; and sound contents that words become are sound words.
-use Prim.Native.Nat.{ℕ, _≤_}
+use Prim.Native.Nat.{ℕ}
 use mathlib.Core.Path.{_≡_, refl, sym, ap, _∙_}
 use mathlib.Core.Bool.{true}
 use mathlib.Core.List.{List}
