@@ -1,5 +1,5 @@
 -- Tests that decide the same, and tests over a range that fail at one place.
-use Prim.Native.Nat.{ℕ, suc, _≤_, _<_}
+use Prim.Native.Nat.{ℕ, _≤_, _<_}
 use mathlib.Core.Path.{_≡_, refl, sym, ap, _∙_}
 use mathlib.Core.Bool.{Bool, true, false, _&&_, and-eq-true-iff, and-assoc, and-comm, true≢false}
 use mathlib.Core.List.{List, [], _∷_, _++_, map, flatten}

@@ -1,23 +1,22 @@
 -- Contents that are put are read again: `contents-put`; and the words are then well formed.
-use Prim.Native.Nat.{ℕ, zero, suc, _+_, _*_, _-_, _/_, _%_, _≤_, _<_}
+use Prim.Native.Nat.{ℕ, zero, suc, _+_, _*_, _-_, _≤_, _<_}
 use mathlib.Core.Path.{_≡_, refl, sym, ap, _∙_}
-use mathlib.Core.Bool.{Bool, true, false, cond, _&&_, and-eq-true-iff}
+use mathlib.Core.Bool.{true, cond, and-eq-true-iff}
 use mathlib.Core.List.{List, [], _∷_, _++_, map, flatten, append-assoc, append-nil}
 use native.Mathlib.Omega.{arith}
-use native.Mathlib.Decide.{decLe}
-use lib.ListN.{length, getD, take, drop, replicate, length-append, length-replicate, length-drop, List·getD-eq-default, List·getD-append, List·getD-map, length-map}
-use lib.Seq.{take-suc, split-at, drop-at, drop-drop, drop-append-add, getD-drop, length-take-le, take-append-seam}
-use lib.Dec.{leb, eqb}
-use borrow.Author.Tests.{leb-true, le-leb, eqb-true, eq-eqb, ne-eqb}
-use Rattle.laws.specs.Series.{series, length-series, getD-series, series-same, series-read, series-self, map-append, flatten-append, chunks-read, length-chunks, every-zeros, append-same}
-use Rattle.laws.specs.Tests.{every, bool-cases, within-facts}
+use lib.ListN.{length, getD, take, drop, replicate, length-append, length-replicate, List·getD-eq-default, List·getD-append, List·getD-map, length-map}
+use lib.Seq.{take-suc, split-at, drop-at, drop-drop, getD-drop}
+use lib.Dec.{eqb}
+use borrow.Author.Tests.{ne-eqb}
+use Rattle.laws.specs.Series.{series, length-series, getD-series, series-same, series-read, series-self, map-append, flatten-append, chunks-read, length-chunks, every-zeros}
+use Rattle.laws.specs.Tests.{every, within-facts}
 use Rattle.meaning.specs.Numbers.{largestFactor, classCount}
 use Rattle.meaning.specs.Box.{Box, Packet, Standing, Link, free, carries, linkKept, sound}
-use Rattle.meaning.proofs.Facts.{SoundFacts, sound-facts, settings-facts}
-use Rattle.words.specs.Places.{boxWords, word, startOf, lengthsBelow, placeOf, tagOf}
+use Rattle.meaning.proofs.Facts.{sound-facts, settings-facts}
+use Rattle.words.specs.Places.{word, startOf, lengthsBelow, placeOf, tagOf}
 use Rattle.words.specs.Contents.{contents, settingsAt, standingAt, standings, packetAt, linkOf, turnsAt, queueAt, queuesAt, padded, standingWords, packetWords, linkWords, turnsOf, byPlace, image, put}
-use Rattle.words.specs.Sound.{zeros, unusedClear, linkClear, emptyFrom, untaggedEmpty, wellFormed}
-use Rattle.words.proofs.Rotation.{place-below, tag-below, tag-of-place, place-of-tag}
+use Rattle.words.specs.Sound.{zeros, unusedClear, linkClear, emptyFrom, untaggedEmpty}
+use Rattle.words.proofs.Rotation.{place-below, tag-of-place}
 
 -- what contents must keep to be read again from their words
 pub record Puttable (box : Box) : Type 0 where
@@ -95,10 +94,6 @@ record Parts (box : Box) (ws : List ℕ) : Type 0 where
 pub length-places : (box : Box) → length (byPlace box) ≡ 64
 unfolding byPlace
 length-places box = length-series (λ p. getD (box .queues) (tagOf (turnsOf box) p) []) 1 0 64
-
--- one part after another
-split : (ws a b : List ℕ) (i n : ℕ) → drop i ws ≡ a ++ b → length a ≡ n → drop i ws ≡ a ++ drop (i + n) ws
-split ws a b i n e l = e ∙ ap (λ t. a ++ t) (sym (after-part ws a b i n e l))
 
 put-parts : (box : Box) (ws : List ℕ) → Puttable box → Parts box (put box ws)
 unfolding put image

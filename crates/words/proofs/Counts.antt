@@ -1,20 +1,20 @@
 -- How many packets wait: by the lengths in the words, by tags and by places it is the same number.
-use Prim.Native.Nat.{ℕ, zero, suc, _+_, _*_, _-_, _/_, _%_, _≤_, _<_}
+use Prim.Native.Nat.{ℕ, zero, suc, _+_, _*_, _-_, _%_, _≤_}
 use mathlib.Core.Path.{_≡_, refl, sym, ap, _∙_}
-use mathlib.Core.Bool.{Bool, true, false, cond, _&&_, and-eq-true-iff}
-use mathlib.Core.List.{List, [], _∷_, _++_, map, flatten}
+use mathlib.Core.Bool.{true, _&&_, and-eq-true-iff}
+use mathlib.Core.List.{List, [], _++_, map, flatten}
 use native.Mathlib.Omega.{arith}
-use native.Mathlib.Nat.{add-comm, mod-lt}
+use native.Mathlib.Nat.{add-comm}
 use lib.ListN.{length, getD, drop, length-append, length-drop, length-map, List·getD-eq-default}
 use lib.Seq.{drop-append-add, drop-drop}
 use lib.Dec.{leb}
 use borrow.Author.Tests.{leb-true, le-leb}
-use Rattle.laws.specs.Series.{series, length-series, series-self, length-flatten, sumBelow, sumBelow-same, sumBelow-zeros, sumBelow-turned, length-chunks}
+use Rattle.laws.specs.Series.{series-self, length-flatten, sumBelow, sumBelow-same, sumBelow-zeros, sumBelow-turned, length-chunks}
 use Rattle.meaning.specs.Numbers.{largestFactor, classCount}
 use Rattle.meaning.specs.Box.{Box, Packet, waiting, sound}
-use Rattle.meaning.proofs.Facts.{SoundFacts, sound-facts, settings-facts}
-use Rattle.words.specs.Places.{boxWords, word, startOf, lengthsBelow, placeOf, tagOf}
-use Rattle.words.specs.Contents.{contents, settingsAt, standings, turnsAt, queueAt, queuesAt, standingWords, packetWords, linkWords, padded, turnsOf, byPlace, image, put}
+use Rattle.meaning.proofs.Facts.{sound-facts, settings-facts}
+use Rattle.words.specs.Places.{boxWords, word, lengthsBelow, placeOf, tagOf}
+use Rattle.words.specs.Contents.{contents, settingsAt, turnsAt, queueAt, queuesAt, standingWords, packetWords, turnsOf, byPlace, image, put}
 use Rattle.words.specs.Sound.{zeros, unusedClear, linkClear, untaggedEmpty, wellFormed, soundWords, Fitting}
 use Rattle.words.proofs.PutContents.{put-contents, class-count, row-count, untagged-zero}
 use Rattle.words.proofs.TableReads.{interval-at, classes-at}

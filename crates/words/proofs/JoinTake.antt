@@ -1,5 +1,5 @@
 -- What joining a tail and taking a head write stands for the queues of document 01.
-use Prim.Native.Nat.{ℕ, zero, suc, _+_, _*_, _-_, _≤_, _<_}
+use Prim.Native.Nat.{ℕ, suc, _+_, _*_, _-_, _≤_, _<_}
 use mathlib.Core.Path.{_≡_, refl, sym, ap, _∙_}
 use mathlib.Core.List.{List, [], _∷_, _++_}
 use native.Mathlib.Omega.{arith}
@@ -7,7 +7,7 @@ use lib.ListN.{length, getD, set, drop, length-set}
 use Rattle.laws.specs.Series.{series, length-series, series-same, series-last}
 use Rattle.meaning.specs.Numbers.{largestFactor}
 use Rattle.meaning.specs.Queues.{joinTail}
-use Rattle.meaning.specs.Box.{Box, Packet}
+use Rattle.meaning.specs.Box.{Packet}
 use Rattle.words.specs.Places.{word, lengthsBelow, startOf, placeOf}
 use Rattle.words.specs.Contents.{contents, settingsAt, packetAt, turnsAt, queueAt, queuesAt}
 use Rattle.words.specs.Sound.{Fitting}

@@ -16,3 +16,4 @@ pub mod SmallChanges
 pub mod LinkWritten
 pub mod Loading
 pub mod RowChanges
+pub mod Readings

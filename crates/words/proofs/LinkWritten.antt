@@ -1,17 +1,15 @@
 -- A written link is clear where it is free.
-use Prim.Native.Nat.{ℕ, _+_, _≤_, _<_}
+use Prim.Native.Nat.{ℕ}
 use mathlib.Core.Path.{_≡_, refl, sym, ap, _∙_}
-use mathlib.Core.Bool.{Bool, true, false, cond, _&&_}
+use mathlib.Core.Bool.{true, false, cond}
 use mathlib.Core.List.{List}
 use mathlib.Core.Logic.{⊎-elim}
 use native.Mathlib.Omega.{arith}
-use native.Mathlib.Decide.{decLe}
-use lib.ListN.{length, set}
+use lib.ListN.{set}
 use lib.Dec.{eqb}
-use borrow.Author.Tests.{eqb-true, eq-eqb}
+use borrow.Author.Tests.{eqb-true}
 use Rattle.laws.specs.Series.{series}
 use Rattle.laws.specs.Tests.{every, bool-cases}
-use Rattle.meaning.specs.Box.{Packet}
 use Rattle.words.specs.Places.{word}
 use Rattle.words.specs.Contents.{packetAt}
 use Rattle.words.specs.Sound.{zeros, linkClear, Fitting}

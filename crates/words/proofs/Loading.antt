@@ -1,27 +1,26 @@
 -- Taking the head of the lowest-tagged queue onto the link.
-use Prim.Native.Nat.{ℕ, zero, suc, _+_, _*_, _-_, _≤_, _<_}
+use Prim.Native.Nat.{ℕ, suc, _+_, _*_, _-_, _≤_, _<_}
 use mathlib.Core.Path.{_≡_, refl, sym, ap, _∙_}
-use mathlib.Core.Bool.{Bool, true}
-use mathlib.Core.List.{List, [], _∷_}
-use mathlib.Core.Option.{Option, none, some}
+use mathlib.Core.Bool.{true}
+use mathlib.Core.List.{List, []}
+use mathlib.Core.Option.{some}
 use native.Mathlib.Omega.{arith}
 use lib.ListN.{length, getD, set, drop}
-use Rattle.laws.specs.Series.{series, getD-series, every-index, length-series}
+use Rattle.laws.specs.Series.{getD-series, every-index, length-series}
 use Rattle.laws.specs.Tests.{every}
 use Rattle.meaning.specs.Numbers.{largestFactor}
 use Rattle.meaning.specs.Queues.{lowestHead, withoutLowestHead}
 use Rattle.meaning.specs.Box.{Box, Packet, Link, free, carries, packetKept, waiting}
 use Rattle.meaning.specs.Step.{loaded, linkTaken, queuesTaken}
 use Rattle.meaning.proofs.Facts.{packet-facts}
-use Rattle.words.specs.Places.{word, lengthsBelow, startOf, placeOf}
+use Rattle.words.specs.Places.{word, startOf, placeOf}
 use Rattle.words.specs.Contents.{contents, settingsAt, packetAt, linkOf, turnsAt, queueAt, queuesAt}
 use Rattle.words.specs.Sound.{Fitting, soundWords}
 use Rattle.words.specs.Changes.{Become, withQueues, withLink, loadedBox, lowestTag}
 use Rattle.words.proofs.Rotation.{place-below}
 use Rattle.words.proofs.TableReads.{lengths-most}
-use Rattle.words.proofs.ContentsPut.{link-carries, length-queue}
+use Rattle.words.proofs.ContentsPut.{link-carries}
 use Rattle.words.proofs.Counts.{sound-fitting}
-use Rattle.words.proofs.QueuesTested.{QueueFacts, QueuesFacts}
 use Rattle.words.proofs.TestedSound.{sound-queues}
 use Rattle.words.proofs.Same.{queue-tagged-at, waiting-length}
 use Rattle.words.proofs.QueueLaws.{take-sets, take-none, take-head}

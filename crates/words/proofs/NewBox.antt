@@ -1,20 +1,20 @@
 -- The words of a new box: the settings, then zeros. A new box is sound.
 use Prim.Native.Nat.{ℕ, zero, suc, _+_, _*_, _-_, _≤_, _<_}
 use mathlib.Core.Path.{_≡_, refl, sym, ap, _∙_}
-use mathlib.Core.Bool.{Bool, true, false, _&&_}
-use mathlib.Core.List.{List, [], _∷_, _++_, map, flatten, append-assoc, append-nil}
+use mathlib.Core.Bool.{true}
+use mathlib.Core.List.{List, [], _∷_, _++_, map, flatten, append-assoc}
 use native.Mathlib.Omega.{arith}
-use lib.ListN.{length, getD, take, drop, set, replicate, length-append, length-replicate, replicate-append-replicate, getD-replicate}
-use lib.Seq.{drop-cons, set-at, drop-drop, drop-append-add, drop-append-le}
-use Rattle.laws.specs.Series.{series, series-same, map-series, append-same, length-flatten, sumBelow}
+use lib.ListN.{length, getD, take, drop, set, replicate, length-append, length-replicate, replicate-append-replicate}
+use lib.Seq.{drop-cons, set-at, drop-drop, drop-append-le}
+use Rattle.laws.specs.Series.{series, series-same, append-same}
 use Rattle.meaning.specs.Numbers.{Settings, largestFactor, risingAbove, settingsAllowed}
 use Rattle.meaning.specs.Queues.{emptyQueues}
 use Rattle.laws.specs.Tests.{every}
-use Rattle.meaning.specs.Box.{Box, Packet, free, connections, waiting, packets, onLink, packetKept, inTheirQueues, serialsRise, linkKept, allowancesKept, sound}
-use Rattle.meaning.proofs.Facts.{SoundFacts, sound-test}
+use Rattle.meaning.specs.Box.{Box, Packet, connections, waiting, packets, onLink, packetKept, inTheirQueues, serialsRise, linkKept, allowancesKept, sound}
+use Rattle.meaning.proofs.Facts.{sound-test}
 use Rattle.meaning.specs.Calls.{newBox}
 use Rattle.words.specs.Places.{tagOf}
-use Rattle.words.specs.Contents.{padded, standingWords, packetWords, linkWords, turnsOf, byPlace, image, put}
+use Rattle.words.specs.Contents.{padded, packetWords, linkWords, turnsOf, byPlace, image, put}
 use Rattle.words.specs.Opening.{asked, cleared}
 
 pub cleared-next : (ws : List ℕ) (i : ℕ) → i < length ws → set (cleared i ws) i 0 ≡ cleared (suc i) ws

@@ -1,22 +1,19 @@
 -- Well-formed words are those that their own contents put: `put-contents`.
-use Prim.Native.Nat.{ℕ, zero, suc, _+_, _*_, _-_, _/_, _%_, _≤_, _<_}
+use Prim.Native.Nat.{ℕ, zero, suc, _+_, _*_, _-_, _≤_, _<_}
 use mathlib.Core.Path.{_≡_, refl, sym, ap, _∙_}
-use mathlib.Core.Bool.{Bool, true, false, cond, _&&_, and-eq-true-iff}
-use mathlib.Core.List.{List, [], _∷_, _++_, map, flatten, append-assoc, append-nil}
+use mathlib.Core.Bool.{true, cond}
+use mathlib.Core.List.{List, [], _∷_, _++_, map, flatten, append-nil}
 use native.Mathlib.Omega.{arith}
 use native.Mathlib.Decide.{decLe}
-use lib.ListN.{length, getD, take, drop, replicate, length-append, take-append-drop, getD-replicate, List·getD-eq-default}
-use lib.Seq.{take-all, ext-getD}
-use lib.Dec.{leb, eqb}
-use borrow.Author.Tests.{leb-true, eqb-true, eq-eqb, ne-eqb}
+use lib.ListN.{length, getD, drop, take-append-drop, getD-replicate, List·getD-eq-default}
+use borrow.Author.Tests.{eq-eqb}
 use Rattle.laws.specs.Series.{series, length-series, getD-series, series-append, series-last, series-same, series-take, series-zeros, map-series, map-append, flatten-append, chunks-words, append-same}
-use Rattle.laws.specs.Tests.{every, bool-cases}
-use Rattle.meaning.specs.Numbers.{largestFactor, classCount}
-use Rattle.meaning.specs.Box.{Box, Packet, Link, free, carries}
-use Rattle.words.specs.Places.{boxWords, word, startOf, lengthsBelow, placeOf, tagOf}
+use Rattle.meaning.specs.Numbers.{largestFactor}
+use Rattle.meaning.specs.Box.{Box, Packet}
+use Rattle.words.specs.Places.{word, startOf, lengthsBelow, placeOf, tagOf}
 use Rattle.words.specs.Contents.{contents, settingsAt, standingAt, standings, packetAt, linkOf, turnsAt, queueAt, queuesAt, padded, standingWords, packetWords, linkWords, turnsOf, byPlace, image, put}
-use Rattle.words.specs.Sound.{zeros, unusedClear, linkClear, emptyFrom, untaggedEmpty, wellFormed, Fitting}
-use Rattle.words.proofs.Rotation.{place-below, tag-below, tag-of-place, place-of-tag}
+use Rattle.words.specs.Sound.{zeros, linkClear, emptyFrom, untaggedEmpty, Fitting}
+use Rattle.words.proofs.Rotation.{tag-below, place-of-tag}
 
 -- a list with the zeros that follow it is the whole stretch
 pub padded-series : (ws : List ℕ) (start n size : ℕ) → n ≤ size → zeros ws (start + n) (size - n) ≡ true

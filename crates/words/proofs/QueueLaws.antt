@@ -1,8 +1,8 @@
 -- Lists of queues: the lowest tag, joining a tail, taking a head.
-use Prim.Native.Nat.{ℕ, zero, suc, _+_, _*_, _-_, _≤_, _<_}
+use Prim.Native.Nat.{ℕ, zero, suc, _+_, _-_, _≤_, _<_}
 use mathlib.Core.Path.{_≡_, refl, sym, ap, _∙_}
 use mathlib.Core.List.{List, [], _∷_, _++_}
-use mathlib.Core.Option.{Option, none, some}
+use mathlib.Core.Option.{none, some}
 use native.Mathlib.Omega.{arith}
 use lib.ListN.{length, getD, set, drop}
 use Rattle.laws.specs.Series.{series, series-next, series-done}
@@ -10,10 +10,6 @@ use lib.Dec.{ltb}
 use borrow.Author.Tests.{lt-ltb}
 use Rattle.meaning.specs.Queues.{joinTail, lowestHead, withoutLowestHead, tagZeroWaits}
 use Rattle.words.specs.Changes.{lowestTag}
-
-pub length-none : {A : Type 0} (l : List A) → length l ≡ 0 → l ≡ []
-length-none [] e = refl
-length-none (x ∷ l) e = absurd (omega arith)
 
 module _ {A : Type 0} where
   lowest-empty : (q : List A) (qs : List (List A)) → length q ≡ 0 → lowestTag (q ∷ qs) ≡ suc (lowestTag qs)

@@ -1,16 +1,16 @@
 -- The test of the queues, place by place, and the clauses of document 01, queue by queue.
-use Prim.Native.Nat.{ℕ, zero, suc, _+_, _*_, _-_, _/_, _%_, _≤_, _<_}
+use Prim.Native.Nat.{ℕ, zero, suc, _+_, _-_, _/_, _≤_, _<_}
 use mathlib.Core.Path.{_≡_, refl, sym, ap, _∙_}
-use mathlib.Core.Bool.{Bool, true, false, cond, _&&_, and-eq-true-iff}
-use mathlib.Core.List.{List, [], _∷_, _++_, map, flatten}
+use mathlib.Core.Bool.{true, cond, _&&_, and-eq-true-iff}
+use mathlib.Core.List.{List, [], _∷_, map}
 use native.Mathlib.Omega.{arith}
 use native.Mathlib.Numerals.{add-one}
 use native.Mathlib.Decide.{decLe}
 use lib.ListN.{length}
-use lib.Dec.{leb, ltb, eqb}
+use lib.Dec.{ltb, eqb}
 use borrow.Author.Tests.{le-leb, lt-leb, eqb-true, eq-eqb}
-use Rattle.laws.specs.Series.{series, every-all, every-index}
-use Rattle.laws.specs.Tests.{every, everyBelow, everyBelow-at, everyBelow-all}
+use Rattle.laws.specs.Series.{series}
+use Rattle.laws.specs.Tests.{every, everyBelow-at, everyBelow-all}
 use Rattle.meaning.specs.Numbers.{largestFactor, risingAbove}
 use Rattle.meaning.specs.Box.{Box, Packet, packetKept, rankIn, inTheirQueues}
 use Rattle.words.specs.Places.{word, placeOf, tagOf}

@@ -1,18 +1,17 @@
 -- What the writers of rows write stands for the changed connections.
-use Prim.Native.Nat.{ℕ, zero, suc, _+_, _*_, _-_, _≤_, _<_}
+use Prim.Native.Nat.{ℕ, suc, _+_, _*_, _-_, _≤_, _<_}
 use mathlib.Core.Path.{_≡_, refl, sym, ap, _∙_}
-use mathlib.Core.Bool.{Bool, true}
+use mathlib.Core.Bool.{true}
 use mathlib.Core.List.{List, [], _∷_, _++_}
 use native.Mathlib.Omega.{arith}
 use native.Mathlib.Decide.{decLe}
 use lib.ListN.{length, set, length-set}
 use lib.Dec.{eqb}
 use Rattle.laws.specs.Series.{series, series-same, series-last, series-set, series-unit, every-index, every-all}
-use Rattle.meaning.specs.Numbers.{largestFactor}
-use Rattle.meaning.specs.Box.{Box, Standing, connection}
+use Rattle.meaning.specs.Box.{Standing, connection}
 use Rattle.meaning.specs.Calls.{withStanding}
-use Rattle.words.specs.Places.{word, lengthsBelow}
-use Rattle.words.specs.Contents.{contents, settingsAt, standings, standingAt, packetAt, turnsAt}
+use Rattle.words.specs.Places.{word}
+use Rattle.words.specs.Contents.{contents, standings, standingAt}
 use Rattle.words.specs.Sound.{zeros, Fitting}
 use Rattle.words.specs.Changes.{Become, RowPut}
 use Rattle.words.proofs.TableReads.{connection-at}

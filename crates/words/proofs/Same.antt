@@ -1,19 +1,19 @@
 -- Parts of the contents that read the same words are the same.
-use Prim.Native.Nat.{ℕ, zero, suc, _+_, _*_, _-_, _/_, _%_, _≤_, _<_}
+use Prim.Native.Nat.{ℕ, zero, suc, _+_, _*_, _-_, _≤_, _<_}
 use mathlib.Core.Path.{_≡_, refl, sym, ap, _∙_}
-use mathlib.Core.Bool.{Bool, true}
-use mathlib.Core.List.{List, [], _∷_}
+use mathlib.Core.Bool.{true}
+use mathlib.Core.List.{List, []}
 use native.Mathlib.Omega.{arith}
 use lib.ListN.{length, getD, drop}
 use lib.Seq.{ext-getD, getD-drop}
 use lib.ListN.{length-drop}
 use lib.Dec.{eqb}
-use Rattle.laws.specs.Series.{series, length-series, getD-series, series-same}
+use Rattle.laws.specs.Series.{getD-series, series-same}
 use Rattle.laws.specs.Tests.{every}
-use Rattle.meaning.specs.Numbers.{Settings, largestFactor}
+use Rattle.meaning.specs.Numbers.{largestFactor}
 use Rattle.meaning.specs.Box.{Box, Packet}
 use Rattle.words.specs.Places.{word, lengthsBelow, startOf, placeOf}
-use Rattle.words.specs.Contents.{contents, settingsAt, standings, standingAt, packetAt, linkOf, turnsAt, queueAt, queuesAt, put}
+use Rattle.words.specs.Contents.{contents, settingsAt, standings, standingAt, packetAt, turnsAt, queueAt, queuesAt, put}
 use Rattle.words.specs.Sound.{zeros, linkClear, emptyFrom, untaggedEmpty, Fitting}
 use Rattle.words.specs.Changes.{Become}
 use Rattle.words.proofs.PutContents.{put-from}

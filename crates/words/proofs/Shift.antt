@@ -1,23 +1,23 @@
 -- The one law of joining and taking: one queue changes its length, and the packets of the later places move with it.
-use Prim.Native.Nat.{ℕ, zero, suc, _+_, _*_, _-_, _/_, _%_, _≤_, _<_}
+use Prim.Native.Nat.{ℕ, zero, suc, _+_, _*_, _-_, _≤_, _<_}
 use mathlib.Core.Path.{_≡_, refl, sym, ap, _∙_}
-use mathlib.Core.Bool.{Bool, true}
-use mathlib.Core.List.{List, [], _∷_, _++_}
+use mathlib.Core.Bool.{true}
+use mathlib.Core.List.{List, []}
 use native.Mathlib.Omega.{arith}
 use native.Mathlib.Decide.{decLe, ℕ-discrete}
-use lib.ListN.{length, getD, set, drop}
+use lib.ListN.{length, set}
 use lib.Dec.{eqb}
-use Rattle.laws.specs.Series.{series, series-same, series-set, series-last}
+use Rattle.laws.specs.Series.{series-same, series-set}
 use Rattle.laws.specs.Tests.{every}
 use Rattle.meaning.specs.Numbers.{largestFactor}
-use Rattle.meaning.specs.Box.{Box, Packet}
+use Rattle.meaning.specs.Box.{Packet}
 use Rattle.words.specs.Places.{word, lengthsBelow, startOf, placeOf, tagOf}
-use Rattle.words.specs.Contents.{contents, settingsAt, standings, packetAt, linkOf, turnsAt, queueAt, queuesAt}
-use Rattle.words.specs.Sound.{zeros, linkClear, emptyFrom, untaggedEmpty, Fitting}
+use Rattle.words.specs.Contents.{contents, settingsAt, packetAt, turnsAt, queueAt, queuesAt}
+use Rattle.words.specs.Sound.{emptyFrom, untaggedEmpty, Fitting}
 use Rattle.words.specs.Changes.{Become, withQueues}
 use Rattle.words.proofs.Rotation.{place-below, tag-of-place}
 use Rattle.words.proofs.TableReads.{lengths-most}
-use Rattle.words.proofs.Same.{settings-same, standings-same, packet-same, zeros-same, turns-same, queue-tagged-at, fitting-kept, link-clear-same}
+use Rattle.words.proofs.Same.{settings-same, standings-same, packet-same, turns-same, fitting-kept, link-clear-same}
 
 -- the queue at `place` loses `less` packets and gains `more`, and the packets of the later places move
 pub record Shifted (ws after : List ℕ) (place less more : ℕ) : Type 0 where

@@ -1,31 +1,31 @@
 -- What the writers of the small parts write stands for the changed contents.
-use Prim.Native.Nat.{ℕ, zero, suc, _+_, _*_, _-_, _/_, _%_, _≤_, _<_}
+use Prim.Native.Nat.{ℕ, suc, _+_, _*_, _-_, _/_, _%_, _≤_, _<_}
 use mathlib.Core.Path.{_≡_, refl, sym, ap, _∙_}
-use mathlib.Core.Bool.{Bool, true, false, cond, _&&_, and-eq-true-iff, true≢false}
+use mathlib.Core.Bool.{Bool, true, false, cond, and-eq-true-iff, true≢false}
 use mathlib.Core.List.{List, [], _∷_, _++_}
 use mathlib.Core.Logic.{⊎-elim}
 use native.Mathlib.Omega.{arith}
-use native.Mathlib.Decide.{ℕ-discrete, decLe}
+use native.Mathlib.Decide.{decLe}
 use native.Mathlib.Nat.{div-add-mod', mod-lt}
 use lib.Arith.{digits-div, digits-mod}
-use lib.ListN.{length, getD, set, length-set}
+use lib.ListN.{length, set, length-set}
 use lib.Dec.{ltb, eqb}
 use borrow.Author.Tests.{eq-eqb, eqb-true, lt-ltb}
-use Rattle.laws.specs.Series.{series, series-same, series-last, series-set, every-all}
-use Rattle.laws.specs.Tests.{every, bool-cases}
+use Rattle.laws.specs.Series.{series, series-same, series-last, every-all}
+use Rattle.laws.specs.Tests.{bool-cases}
 use Rattle.meaning.specs.Numbers.{largestFactor}
-use Rattle.meaning.specs.Queues.{turnAt, turned, tagZeroWaits, withoutLowestHead, joinTail}
-use Rattle.meaning.specs.Box.{Box, Packet, Link, free, waiting}
-use Rattle.words.specs.Places.{word, lengthsBelow, startOf, placeOf}
-use Rattle.words.specs.Contents.{contents, settingsAt, standings, packetAt, linkOf, turnsAt, queueAt, queuesAt}
-use Rattle.words.specs.Sound.{zeros, linkClear, emptyFrom, untaggedEmpty, Fitting}
+use Rattle.meaning.specs.Queues.{turnAt, turned, tagZeroWaits}
+use Rattle.meaning.specs.Box.{Box, Packet, waiting}
+use Rattle.words.specs.Places.{word, placeOf}
+use Rattle.words.specs.Contents.{contents, settingsAt, linkOf, turnsAt, queueAt, queuesAt}
+use Rattle.words.specs.Sound.{linkClear, emptyFrom, untaggedEmpty, Fitting}
 use Rattle.words.specs.Changes.{Become, withAccepted, withLink, raised, PacketPut}
 use Rattle.words.proofs.PutContents.{untagged-zero, queue-untagged}
 use Rattle.words.proofs.ContentsPut.{length-queue}
 use Rattle.words.proofs.Counts.{waiting-count}
-use Rattle.words.proofs.Rotation.{place-below, place-turned, place-whole}
+use Rattle.words.proofs.Rotation.{place-turned, place-whole}
 use Rattle.words.proofs.Moving.{word-other, word-same}
-use Rattle.words.proofs.Same.{settings-same, standings-same, packet-same, zeros-same, turns-same, fitting-kept, link-clear-same, lengths-same, queue-same, queues-same, untagged-same}
+use Rattle.words.proofs.Same.{settings-same, standings-same, packet-same, turns-same, fitting-kept, link-clear-same, lengths-same, queue-same, queues-same, untagged-same}
 
 -- one change after another is one change, where the first leaves no more packets than the second
 pub become-then : (ws mid after : List ℕ) (first second : Box) → Become ws mid first → Become mid after second

@@ -1,27 +1,27 @@
 -- The rows and the packets in words, as the tests of document 01 read them.
 use Prim.Native.Nat.{ℕ, zero, suc, _+_, _*_, _-_, _/_, _%_, _≤_, _<_}
-use mathlib.Core.Path.{_≡_, refl, sym, ap, _∙_}
-use mathlib.Core.Bool.{Bool, true, false, _&&_, and-eq-true-iff, and-assoc}
-use mathlib.Core.List.{List, [], _∷_, map}
+use mathlib.Core.Path.{_≡_, sym, ap, _∙_}
+use mathlib.Core.Bool.{true, _&&_, and-eq-true-iff, and-assoc}
+use mathlib.Core.List.{List}
 use native.Mathlib.Omega.{arith}
 use native.Mathlib.Decide.{decLe}
 use lib.ListN.{length, getD}
 use lib.Dec.{leb, eqb}
 use borrow.Author.Tests.{leb-true}
-use Rattle.laws.specs.Series.{series, length-series, getD-series, map-series, every-index}
+use Rattle.laws.specs.Series.{length-series, getD-series, map-series, every-index}
 use Rattle.laws.specs.Tests.{within, every, within-facts}
 use Rattle.words.specs.Opening.{asked}
 use Rattle.meaning.specs.Numbers.{Connection, settingsAllowed, intervalAllowed, cycleAllowed, classesAllowed, largestBoundAllowed, largestBound, bound, risingAbove, classCount, factor, largestFactor, connectionAllowed, classAllowed, longestAllowed, burstAllowed, periodAllowed}
 use Rattle.meaning.specs.Envelope.{Allowance, full, allowanceKept}
 use Rattle.meaning.specs.Calls.{allowance}
 use Rattle.meaning.specs.Queues.{rank}
-use Rattle.meaning.specs.Box.{Box, Packet, Standing, connections, connection, noConnection, stands, packetKept, rankIn}
+use Rattle.meaning.specs.Box.{connections, connection, noConnection, stands, packetKept, rankIn}
 use Rattle.meaning.proofs.Facts.{settings-facts}
-use Rattle.words.specs.Places.{word, lengthsBelow, startOf}
+use Rattle.words.specs.Places.{word, lengthsBelow}
 use Rattle.words.specs.Contents.{contents, settingsAt, standingAt, standings, packetAt}
 use Rattle.words.specs.Sound.{zeros, Tables}
 use Rattle.words.specs.Tested.{rowKept, settingsTested, rowsTested}
-use Rattle.words.proofs.PutContents.{class-count, row-count}
+use Rattle.words.proofs.PutContents.{class-count}
 
 -- the test of a row, word by word
 pub row-parts : (ws : List ℕ) (at : ℕ)

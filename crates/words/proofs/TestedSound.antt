@@ -1,25 +1,25 @@
 -- The test, part by part, is the soundness of document 01: `tested-sound`.
-use Prim.Native.Nat.{ℕ, zero, suc, _+_, _*_, _-_, _/_, _%_, _≤_, _<_}
+use Prim.Native.Nat.{ℕ, zero, suc, _+_, _*_, _-_, _≤_, _<_}
 use mathlib.Core.Path.{_≡_, refl, sym, ap, _∙_}
 use mathlib.Core.Bool.{Bool, true, false, cond, _&&_, and-eq-true-iff}
-use mathlib.Core.List.{List, [], _∷_, _++_, map, flatten}
+use mathlib.Core.List.{List, map}
 use mathlib.Core.Logic.{⊎-elim}
 use native.Mathlib.Omega.{arith}
 use lib.ListN.{length, length-append}
 use lib.Dec.{leb, ltb, eqb}
 use borrow.Author.Tests.{leb-true, le-leb, ltb-true, lt-ltb, eqb-true, eqb-false, eq-eqb, ne-eqb}
-use Rattle.laws.specs.Series.{series, length-series, every-all, every-index, series-zeros}
-use Rattle.laws.specs.Tests.{within, every, within-facts, within-test, bool-cases}
+use Rattle.laws.specs.Series.{length-series, every-all, every-index}
+use Rattle.laws.specs.Tests.{every, within-facts, within-test, bool-cases}
 use Rattle.laws.specs.Deciding.{bool-same, every-append, every-split, every-flatten, every-unflatten, every-map, every-both}
 use Rattle.meaning.specs.Numbers.{largestFactor, risingAbove, settingsAllowed, connectionAllowed, mostConnections, mostWaiting, lastSlot}
 use Rattle.meaning.specs.Envelope.{allowanceKept}
-use Rattle.meaning.specs.Box.{Box, Packet, Standing, Link, free, carries, connections, waiting, onLink, packets, packetKept, linkKept, serialsRise, allowancesKept, sound}
-use Rattle.meaning.proofs.Facts.{SoundFacts, sound-facts, sound-test, settings-facts}
+use Rattle.meaning.specs.Box.{Box, Packet, connections, waiting, onLink, packets, packetKept, linkKept, serialsRise, allowancesKept, sound}
+use Rattle.meaning.proofs.Facts.{sound-facts, sound-test, settings-facts}
 use Rattle.words.specs.Places.{boxWords, word, lengthsBelow, placeOf}
-use Rattle.words.specs.Contents.{contents, settingsAt, standings, standingAt, packetAt, linkOf, turnsAt, queueAt, queuesAt}
-use Rattle.words.specs.Sound.{zeros, unusedClear, linkClear, emptyFrom, untaggedEmpty, wellFormed, soundWords, Fitting}
+use Rattle.words.specs.Contents.{contents, settingsAt, standings, packetAt, linkOf, turnsAt, queueAt, queuesAt}
+use Rattle.words.specs.Sound.{zeros, unusedClear, linkClear, emptyFrom, untaggedEmpty, wellFormed, soundWords}
 use Rattle.words.specs.Tested.{settingsTested, rowKept, rowsTested, linkTested, countsTested, queuesTested, tested}
-use Rattle.words.proofs.PutContents.{class-count, row-count, untagged-zero}
+use Rattle.words.proofs.PutContents.{row-count, untagged-zero}
 use Rattle.words.proofs.ContentsPut.{link-carries}
 use Rattle.words.proofs.Counts.{waiting-count, sound-fitting}
 use Rattle.words.proofs.QueuesTested.{QueueFacts, QueuesFacts, queues-facts, queues-test, in-queues-all, in-queues-at}

@@ -1,13 +1,13 @@
 -- What the inner functions do to sound words, said of their contents.
-use Prim.Native.Nat.{ℕ, zero, suc, _+_, _-_, _*_, _≤_, _<_}
+use Prim.Native.Nat.{ℕ, suc, _+_, _-_, _*_, _≤_, _<_}
 use mathlib.Core.Path.{_≡_}
-use mathlib.Core.Bool.{Bool, cond}
-use mathlib.Core.List.{List, [], _∷_, _++_}
-use lib.ListN.{length, getD, set}
+use mathlib.Core.Bool.{cond}
+use mathlib.Core.List.{List, [], _∷_}
+use lib.ListN.{length}
 use Rattle.meaning.specs.Queues.{turnAt, turned}
 use Rattle.meaning.specs.Box.{Box, Packet, Standing, Link}
 use Rattle.meaning.specs.Step.{linkTaken, queuesTaken}
-use Rattle.words.specs.Places.{word, lengthsBelow, startOf}
+use Rattle.words.specs.Places.{word, lengthsBelow}
 use Rattle.words.specs.Contents.{contents, packetAt, standingAt}
 use Rattle.words.specs.Sound.{Fitting}
 

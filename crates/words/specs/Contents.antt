@@ -1,10 +1,9 @@
 -- What words stand for, and how contents are put into words.
-use Prim.Native.Nat.{ℕ, zero, suc, _+_, _-_, _*_, _/_}
+use Prim.Native.Nat.{ℕ, zero, suc, _+_, _-_, _/_}
 use mathlib.Core.List.{List, [], _∷_, _++_, map, flatten}
 use lib.ListN.{length, getD, drop, replicate}
 use Rattle.laws.specs.Series.{series}
-use Rattle.meaning.specs.Numbers.{Settings, Connection, largestFactor}
-use Rattle.meaning.specs.Envelope.{Allowance}
+use Rattle.meaning.specs.Numbers.{Settings, largestFactor}
 use Rattle.meaning.specs.Box.{Box, Packet, Standing, Link, free, carries}
 use Rattle.words.specs.Places.{word, startOf, placeOf, tagOf}
 

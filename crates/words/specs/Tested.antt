@@ -1,10 +1,10 @@
 -- The test of soundness part by part, in the order in which the code asks.
-use Prim.Native.Nat.{ℕ, zero, suc, _+_, _-_, _*_}
+use Prim.Native.Nat.{ℕ, _+_, _-_, _*_}
 use mathlib.Core.Bool.{Bool, true, _&&_, cond}
 use mathlib.Core.List.{List, [], _∷_}
 use lib.ListN.{length}
 use lib.Dec.{leb, ltb, eqb}
-use Rattle.laws.specs.Tests.{within, every, everyBelow}
+use Rattle.laws.specs.Tests.{every, everyBelow}
 use Rattle.meaning.specs.Numbers.{largestFactor, settingsAllowed, connectionAllowed, mostConnections, mostWaiting, lastSlot}
 use Rattle.meaning.specs.Envelope.{allowanceKept}
 use Rattle.meaning.specs.Box.{Box, Packet, Standing, packetKept, rankIn}

@@ -7,6 +7,7 @@ ghost use mathlib.Core.Bool.{true, false};
 ghost use mathlib.Core.List.{_++_, _∷_, []};
 ghost use Prim.Native.Nat.{suc, _+_, _-_, _≤_, _<_};
 ghost use lib.ListN.{length, set};
+ghost use Rattle.meaning.specs.Numbers.{classCount, factor};
 ghost use Rattle.meaning.specs.Queues.{tagZeroWaits, turnAt};
 ghost use Rattle.meaning.specs.Box.{connection, waiting};
 ghost use Rattle.meaning.specs.Calls.{allowance, withStanding};
@@ -152,4 +153,36 @@ pub fn append_row(ws: &mut [u32], row: Row)
     let count = ws[11];
     write_row(ws, 6 * (2 + wide(count)), row);
     ws[11] = count + 1;
+}
+
+// The rotation interval D.
+pub fn interval(ws: &[u32]) -> u32
+    requires { ⌜ Fitting (now ws) ⌝ }
+    ensures { λ r. ⌜ r ≡ contents (now (ws .entry)) .settings .interval ⌝ }
+{
+    ws[0]
+}
+
+// The cycle M.
+pub fn cycle(ws: &[u32]) -> u32
+    requires { ⌜ Fitting (now ws) ⌝ }
+    ensures { λ r. ⌜ r ≡ contents (now (ws .entry)) .settings .cycle ⌝ }
+{
+    ws[1]
+}
+
+// P, the number of classes.
+pub fn class_count(ws: &[u32]) -> u32
+    requires { ⌜ Fitting (now ws) ⌝ }
+    ensures { λ r. ⌜ (r ≡ classCount (contents (now (ws .entry)) .settings)) × (r ≤ 8) ⌝ }
+{
+    ws[2]
+}
+
+// rp, the factor of class p.
+pub fn class_factor(ws: &[u32], p: u32) -> u32
+    requires { ⌜ Fitting (now ws) × (1 ≤ p) × (p ≤ word (now ws) 2) ⌝ }
+    ensures { λ r. ⌜ r ≡ factor (contents (now (ws .entry)) .settings) p ⌝ }
+{
+    ws[2 + wide(p)]
 }

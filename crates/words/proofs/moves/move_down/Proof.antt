@@ -1,12 +1,9 @@
-use Rattle.words.proofs.Moving.{UpTo, up-start, up-next, up-end, DownTo, down-start, down-next, down-end, packet-stored}
-use lib.ListN.{length, getD, take, drop, set}
+-- `words::moves::move_down` meets its contract.
+use Rattle.words.proofs.Moving.{DownTo, down-start, down-next, down-end}
 use native.Mathlib.Omega.{arith}
-use mathlib.Core.Path.{_≡_, refl, sym, ap, _∙_}
-use Prim.Native.Nat.{ℕ, suc, _+_, _*_, _-_, _^_, _/_, _%_, _≤_, _<_}
+use Prim.Native.Nat.{_+_, _-_, _≤_}
 use Rattle.words.proofs.moves.move_down.Statement.{statement}
 use Rattle.words.proofs.moves.move_down.Tie as tie
-use Rattle.words.proofs.moves.move_down.Reads as reads
-use Rattle.words.proofs.moves.move_down.Lts as lts
 
 abbrev Inv-loop : tie.InvT-loop
 Inv-loop ws₀ from to i₀ ws i = (from ≤ i) × (i + 4 ≤ to) × DownTo ws₀ ws from i
@@ -14,54 +11,42 @@ Inv-loop ws₀ from to i₀ ws i = (from ≤ i) × (i + 4 ≤ to) × DownTo ws�
 abbrev μ-loop : tie.MeasureT-loop
 μ-loop ws₀ from to i₀ ws i = to - i
 
--- src/moves.rt:25:5
 loop-holds : tie.Need-loop-holds Inv-loop μ-loop
 loop-holds c = (omega arith, omega arith, down-start (c .args .ws .now) (c .args .from))
 
--- src/moves.rt:25:11
 add-loop : tie.Need-add-loop Inv-loop μ-loop
 add-loop c = omega arith
 
--- src/moves.rt:26:24
 add-moved : tie.Need-add-moved Inv-loop μ-loop
 add-moved c = omega (arith, c .before .loop .inv .2 .same-length)
 
--- src/moves.rt:26:21
 mul-moved : tie.Need-mul-moved Inv-loop μ-loop
 mul-moved c = omega (arith, c .before .loop .inv .2 .same-length)
 
--- src/moves.rt:26:21
 slice-read-moved : tie.Need-slice-read-moved Inv-loop μ-loop
 slice-read-moved c = omega (arith, c .before .before .loop .inv .2 .same-length)
 
--- src/moves.rt:27:9
 mul-ws : tie.Need-mul-ws Inv-loop μ-loop
 mul-ws c = omega arith
 
--- src/moves.rt:27:9
 slice-write-ws : tie.Need-slice-write-ws Inv-loop μ-loop
 slice-write-ws c = omega (arith, c .before .before .loop .inv .2 .same-length)
 
--- src/moves.rt:28:9
 add-i : tie.Need-add-i Inv-loop μ-loop
 add-i c = omega arith
 
--- src/moves.rt:25:5
 loop-less : tie.Need-loop-less Inv-loop μ-loop
 loop-less c = omega arith
 
--- src/moves.rt:25:5
 loop-again : tie.Need-loop-again Inv-loop μ-loop
 loop-again c =
     let s = c .before .before .loop in
     let a = c .before .before .before .args in
     (omega arith, omega arith, down-next (a .ws .now) (s .ws) (a .from) (s .i) (omega arith) (omega arith) (s .inv .2))
 
--- src/moves.rt:20:1
 same-length : tie.Need-same-length Inv-loop μ-loop
 same-length c = c .before .loop .inv .2 .same-length
 
--- src/moves.rt:20:1
 returns : tie.Need-returns Inv-loop μ-loop
 returns c = down-end (c .before .before .args .ws .now) (c .before .loop .ws) (c .before .before .args .from) (c .before .before .args .to) (c .before .loop .i) (omega arith) (omega arith) (c .before .loop .inv .2)
 

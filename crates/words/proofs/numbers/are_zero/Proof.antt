@@ -1,16 +1,14 @@
+-- `words::numbers::are_zero` meets its contract.
 use Rattle.words.specs.Places.{word}
 use lib.Dec.{eqb}
-use Rattle.laws.specs.Series.{every-stop, every-next, every-end, series}
+use Rattle.laws.specs.Series.{every-stop, every-next, every-end}
 use Rattle.words.specs.Sound.{zeros}
-use lib.ListN.{length}
-use borrow.Author.Tests.{leb-true, le-leb, lt-leb, lt-ltb, le-ltb, eq-eqb, ne-eqb}
+use borrow.Author.Tests.{eq-eqb, ne-eqb}
 use native.Mathlib.Omega.{arith}
-use mathlib.Core.Path.{_≡_, refl, sym, ap, _∙_}
-use Prim.Native.Nat.{ℕ, suc, _+_, _*_, _-_, _^_, _/_, _%_, _≤_, _<_}
+use mathlib.Core.Path.{_≡_, refl, sym, _∙_}
+use Prim.Native.Nat.{_-_, _≤_}
 use Rattle.words.proofs.numbers.are_zero.Statement.{statement}
 use Rattle.words.proofs.numbers.are_zero.Tie as tie
-use Rattle.words.proofs.numbers.are_zero.Reads as reads
-use Rattle.words.proofs.numbers.are_zero.Lts as lts
 
 abbrev Inv-loop : tie.InvT-loop
 Inv-loop ws from to i₀ i = (from ≤ i) × (i ≤ to) × (zeros ws i (to - i) ≡ zeros ws from (to - from))
@@ -18,19 +16,15 @@ Inv-loop ws from to i₀ i = (from ≤ i) × (i ≤ to) × (zeros ws i (to - i) 
 abbrev μ-loop : tie.MeasureT-loop
 μ-loop ws from to i₀ i = to - i
 
--- src/numbers.rt:33:5
 loop-holds : tie.Need-loop-holds Inv-loop μ-loop
 loop-holds c = (omega arith, omega arith, refl)
 
--- src/numbers.rt:34:12
 mul-if1 : tie.Need-mul-if1 Inv-loop μ-loop
 mul-if1 c = omega arith
 
--- src/numbers.rt:34:12
 shared-slice-read-if1 : tie.Need-shared-slice-read-if1 Inv-loop μ-loop
 shared-slice-read-if1 c = omega arith
 
--- src/numbers.rt:35:13
 returns : tie.Need-returns Inv-loop μ-loop
 unfolding zeros
 returns c =
@@ -40,15 +34,12 @@ returns c =
     sym (sym (s .loop .inv .2) ∙
     every-stop (λ w. eqb w 0) (λ j. word (a .ws .now) j) 1 i (a .to) i (c .before .before .loop-test .taken) (ne-eqb _ 0 (c .if1 .taken)))
 
--- src/numbers.rt:37:9
 add-i : tie.Need-add-i Inv-loop μ-loop
 add-i c = omega arith
 
--- src/numbers.rt:33:5
 loop-less : tie.Need-loop-less Inv-loop μ-loop
 loop-less c = omega arith
 
--- src/numbers.rt:33:5
 loop-again : tie.Need-loop-again Inv-loop μ-loop
 unfolding zeros
 loop-again c =
@@ -61,7 +52,6 @@ loop-again c =
           s .loop .inv .2,
     )
 
--- src/numbers.rt:28:1
 returns-2 : tie.Need-returns-2 Inv-loop μ-loop
 unfolding zeros
 returns-2 c =

@@ -1,15 +1,12 @@
+-- `words::numbers::lengths_below` meets its contract.
 use native.Mathlib.Numerals.{add-one}
 use Rattle.words.specs.Places.{lengthsBelow}
-use lib.ListN.{length}
 use borrow.Author.Needs.{needs}
 use native.Mathlib.Omega.{arith}
-use mathlib.Core.Path.{_≡_, refl, sym, ap, _∙_}
-use Prim.Native.Nat.{ℕ, suc, _+_, _*_, _-_, _^_, _/_, _%_, _≤_, _<_}
+use mathlib.Core.Path.{_≡_, refl}
+use Prim.Native.Nat.{_*_, _-_, _^_, _≤_}
 use Rattle.words.proofs.numbers.lengths_below.Statement.{statement}
 use Rattle.words.proofs.numbers.lengths_below.Tie as tie
-use Rattle.words.proofs.numbers.lengths_below.Reads as reads
-use Rattle.words.proofs.numbers.lengths_below.Lts as lts
-use Rattle.words.proofs.numbers.wide.Reads as wide-reads
 
 abbrev Inv-loop : tie.InvT-loop
 Inv-loop ws p sum₀ i₀ sum i = (i ≤ p) × (sum ≡ lengthsBelow ws i) × (sum ≤ i * 2 ^ 32)
@@ -17,40 +14,31 @@ Inv-loop ws p sum₀ i₀ sum i = (i ≤ p) × (sum ≡ lengthsBelow ws i) × (s
 abbrev μ-loop : tie.MeasureT-loop
 μ-loop ws p sum₀ i₀ sum i = p - i
 
--- src/numbers.rt:49:5
 loop-holds : tie.Need-loop-holds Inv-loop μ-loop
 unfolding lengthsBelow
 loop-holds c = (omega arith, refl, omega arith)
 
--- src/numbers.rt:50:24
 add-wide : tie.Need-add-wide Inv-loop μ-loop
 add-wide c = omega arith
 
--- src/numbers.rt:50:21
 mul-wide : tie.Need-mul-wide Inv-loop μ-loop
 mul-wide c = omega arith
 
--- src/numbers.rt:50:21
 shared-slice-read-wide : tie.Need-shared-slice-read-wide Inv-loop μ-loop
 shared-slice-read-wide c = omega arith
 
--- src/numbers.rt:50:16
 wide-requires : tie.Need-wide-requires Inv-loop μ-loop
 wide-requires c κs = search needs
 
--- src/numbers.rt:50:9
 add-sum : tie.Need-add-sum Inv-loop μ-loop
 add-sum c = omega arith
 
--- src/numbers.rt:51:9
 add-i : tie.Need-add-i Inv-loop μ-loop
 add-i c = omega arith
 
--- src/numbers.rt:49:5
 loop-less : tie.Need-loop-less Inv-loop μ-loop
 loop-less c = omega arith
 
--- src/numbers.rt:49:5
 loop-again : tie.Need-loop-again Inv-loop μ-loop
 unfolding lengthsBelow
 loop-again c = (
@@ -59,7 +47,6 @@ loop-again c = (
   omega arith,
 )
 
--- src/numbers.rt:43:1
 returns : tie.Need-returns Inv-loop μ-loop
 returns c =
     let e : c .before .loop .i ≡ c .before .before .before .args .p = omega arith in

@@ -1,15 +1,14 @@
+-- `words::opening::clear` meets its contract.
 use Rattle.words.specs.Opening.{cleared}
 use lib.ListN.{length-set}
 use native.Mathlib.Numerals.{add-one}
 use Rattle.words.proofs.NewBox.{cleared-next}
-use lib.ListN.{length, getD, take, drop, set}
+use lib.ListN.{length, set}
 use native.Mathlib.Omega.{arith}
-use mathlib.Core.Path.{_≡_, refl, sym, ap, _∙_}
-use Prim.Native.Nat.{ℕ, suc, _+_, _*_, _-_, _^_, _/_, _%_, _≤_, _<_}
+use mathlib.Core.Path.{_≡_, refl, ap, _∙_}
+use Prim.Native.Nat.{_-_, _≤_}
 use Rattle.words.proofs.opening.clear.Statement.{statement}
 use Rattle.words.proofs.opening.clear.Tie as tie
-use Rattle.words.proofs.opening.clear.Reads as reads
-use Rattle.words.proofs.opening.clear.Lts as lts
 
 abbrev Inv-loop : tie.InvT-loop
 Inv-loop ws₀ n i₀ ws i = (i ≤ n) × (length ws ≡ length ws₀) × (ws ≡ cleared i ws₀)
@@ -17,28 +16,22 @@ Inv-loop ws₀ n i₀ ws i = (i ≤ n) × (length ws ≡ length ws₀) × (ws �
 abbrev μ-loop : tie.MeasureT-loop
 μ-loop ws₀ n i₀ ws i = n - i
 
--- src/opening.rt:16:5
 loop-holds : tie.Need-loop-holds Inv-loop μ-loop
 unfolding cleared
 loop-holds c = (omega arith, refl, refl)
 
--- src/opening.rt:17:9
 mul-ws : tie.Need-mul-ws Inv-loop μ-loop
 mul-ws c = omega arith
 
--- src/opening.rt:17:9
 slice-write-ws : tie.Need-slice-write-ws Inv-loop μ-loop
 slice-write-ws c = omega arith
 
--- src/opening.rt:18:9
 add-i : tie.Need-add-i Inv-loop μ-loop
 add-i c = omega arith
 
--- src/opening.rt:16:5
 loop-less : tie.Need-loop-less Inv-loop μ-loop
 loop-less c = omega arith
 
--- src/opening.rt:16:5
 loop-again : tie.Need-loop-again Inv-loop μ-loop
 loop-again c =
     let s = c .before .loop in
@@ -48,11 +41,9 @@ loop-again c =
       rw (add-one (s .i)) (ap (λ l. set l (s .i) 0) (s .inv .2) ∙ cleared-next (a .ws .now) (s .i) (omega arith)),
     )
 
--- src/opening.rt:11:1
 same-length : tie.Need-same-length Inv-loop μ-loop
 same-length c = c .before .loop .inv .1
 
--- src/opening.rt:11:1
 returns : tie.Need-returns Inv-loop μ-loop
 returns c = let e : c .before .loop .i ≡ c .before .before .args .n = omega arith in c .before .loop .inv .2 ∙ ap (λ i. cleared i (c .before .before .args .ws .now)) e
 

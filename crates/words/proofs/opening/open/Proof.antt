@@ -1,3 +1,4 @@
+-- `words::opening::open` meets its contract.
 use Rattle.meaning.specs.declared.Opened.{Opened}
 use Rattle.meaning.specs.Numbers.{classCount}
 use lib.ListN.{length-set}
@@ -5,27 +6,19 @@ use Rattle.words.proofs.NewBox.{opening-writes}
 use Rattle.meaning.proofs.Facts.{settings-facts}
 use Rattle.meaning.specs.Calls.{openingAnswer}
 use Rattle.meaning.specs.Numbers.{settingsAllowed}
-use Rattle.words.specs.Opening.{asked, cleared, afterOpening, opened}
-use lib.ListN.{length, getD, take, drop, set}
-use mathlib.Core.Bool.{Bool, true, false, _&&_, and-false, or-false}
-use borrow.Author.Tests.{leb-true, leb-false, le-leb, lt-leb, lt-ltb, le-ltb, eq-eqb, ne-eqb, not-true, not-false}
+use Rattle.words.specs.Opening.{asked, afterOpening, opened}
+use mathlib.Core.Bool.{true, false}
+use borrow.Author.Tests.{lt-ltb, le-ltb, not-true, not-false}
 use native.Mathlib.Omega.{arith}
-use mathlib.Core.Path.{_≡_, refl, sym, ap, _∙_}
-use Prim.Native.Nat.{ℕ, suc, _+_, _*_, _-_, _^_, _/_, _%_, _≤_, _<_}
+use mathlib.Core.Path.{_≡_, sym, ap, _∙_}
+use Prim.Native.Nat.{_-_}
 use borrow.Author.Needs.{needs}
 use Rattle.words.proofs.opening.open.Statement.{statement}
 use Rattle.words.proofs.opening.open.Tie as tie
-use Rattle.words.proofs.opening.open.Reads as reads
-use Rattle.words.proofs.opening.open.Lts as lts
-use Rattle.words.proofs.opening.clear.Reads as clear-reads
-use Rattle.words.proofs.opening.write_factors.Reads as write-factors-reads
-use Rattle.words.proofs.settings.settings_allowed.Reads as settings-allowed-reads
 
--- src/opening.rt:38:9
 settings-allowed-requires : tie.Need-settings-allowed-requires
 settings-allowed-requires c κs = search needs
 
--- src/opening.rt:39:9
 returns : tie.Need-returns
 unfolding opened openingAnswer afterOpening
 returns c =
@@ -33,7 +26,6 @@ returns c =
     let e : settingsAllowed (asked (a .d) (a .m) (a .factors .now)) ≡ false = sym (c .before .settings-allowed .ensures) ∙ not-true _ (c .if1 .taken) in
     simp e
 
--- src/opening.rt:42:9
 returns-2 : tie.Need-returns-2
 unfolding opened openingAnswer afterOpening
 returns-2 c =
@@ -41,19 +33,15 @@ returns-2 c =
     let e : settingsAllowed (asked (a .d) (a .m) (a .factors .now)) ≡ true = sym (c .before .before .settings-allowed .ensures) ∙ not-false _ (c .before .if1 .left) in
     simp (e, lt-ltb _ _ (c .if2 .taken))
 
--- src/opening.rt:44:5
 clear-requires : tie.Need-clear-requires
 clear-requires c κs = search needs
 
--- src/opening.rt:45:5
 slice-write-ws : tie.Need-slice-write-ws
 slice-write-ws c = search needs
 
--- src/opening.rt:46:5
 slice-write-ws-2 : tie.Need-slice-write-ws-2
 slice-write-ws-2 c = simp length-set (omega (arith, c .before .before .clear .kept .0, c .before .before .before .before .if2 .left))
 
--- src/opening.rt:47:13
 cast-ws : tie.Need-cast-ws
 unfolding classCount
 cast-ws c =
@@ -61,11 +49,9 @@ cast-ws c =
     let e : settingsAllowed (asked (a .d) (a .m) (a .factors .now)) ≡ true = sym (c .before .before .before .before .before .before .settings-allowed .ensures) ∙ not-false _ (c .before .before .before .before .before .if1 .left) in
     record { fits = omega (arith, settings-facts (asked (a .d) (a .m) (a .factors .now)) e .classes-most) }
 
--- src/opening.rt:47:5
 slice-write-ws-3 : tie.Need-slice-write-ws-3
 slice-write-ws-3 c = simp length-set (omega (arith, c .before .before .clear .kept .0, c .before .before .before .before .if2 .left))
 
--- src/opening.rt:48:5
 write-factors-requires : tie.Need-write-factors-requires
 unfolding classCount
 write-factors-requires c κs =
@@ -73,11 +59,9 @@ write-factors-requires c κs =
     let e : settingsAllowed (asked (a .d) (a .m) (a .factors .now)) ≡ true = sym (c .before .before .before .before .before .before .before .settings-allowed .ensures) ∙ not-false _ (c .before .before .before .before .before .before .if1 .left) in
     simp length-set (omega (arith, c .before .before .before .clear .kept .0, c .before .before .before .before .before .if2 .left, settings-facts (asked (a .d) (a .m) (a .factors .now)) e .classes-most))
 
--- src/opening.rt:35:1
 same-length : tie.Need-same-length
 same-length c = simp length-set at (c .before .before .write-factors .kept .0) ∙ c .before .before .before .before .before .before .clear .kept .0
 
--- src/opening.rt:35:1
 returns-3 : tie.Need-returns-3
 unfolding opened openingAnswer afterOpening classCount
 returns-3 c =

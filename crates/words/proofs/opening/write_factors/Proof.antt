@@ -1,15 +1,14 @@
+-- `words::opening::write_factors` meets its contract.
 use mathlib.Core.List.{_++_}
 use lib.Seq.{paste, paste-zero, paste-suc, take-length}
 use lib.ListN.{length-set}
 use native.Mathlib.Numerals.{add-one}
 use lib.ListN.{length, getD, take, drop, set}
 use native.Mathlib.Omega.{arith}
-use mathlib.Core.Path.{_≡_, refl, sym, ap, _∙_}
-use Prim.Native.Nat.{ℕ, suc, _+_, _*_, _-_, _^_, _/_, _%_, _≤_, _<_}
+use mathlib.Core.Path.{_≡_, refl, ap, _∙_}
+use Prim.Native.Nat.{_+_, _-_, _≤_}
 use Rattle.words.proofs.opening.write_factors.Statement.{statement}
 use Rattle.words.proofs.opening.write_factors.Tie as tie
-use Rattle.words.proofs.opening.write_factors.Reads as reads
-use Rattle.words.proofs.opening.write_factors.Lts as lts
 
 abbrev Inv-loop : tie.InvT-loop
 Inv-loop ws₀ factors i₀ ws i = (i ≤ length factors) × (length ws ≡ length ws₀) × (ws ≡ paste ws₀ 3 factors i)
@@ -17,39 +16,30 @@ Inv-loop ws₀ factors i₀ ws i = (i ≤ length factors) × (length ws ≡ leng
 abbrev μ-loop : tie.MeasureT-loop
 μ-loop ws₀ factors i₀ ws i = length factors - i
 
--- src/opening.rt:28:5
 loop-holds : tie.Need-loop-holds Inv-loop μ-loop
 loop-holds c = (omega arith, refl, paste-zero (c .args .ws .now) 3 (c .args .factors .now))
 
--- src/opening.rt:29:21
 mul-ws : tie.Need-mul-ws Inv-loop μ-loop
 mul-ws c = omega arith
 
--- src/opening.rt:29:21
 shared-slice-read-ws : tie.Need-shared-slice-read-ws Inv-loop μ-loop
 shared-slice-read-ws c = omega arith
 
--- src/opening.rt:29:12
 add-ws : tie.Need-add-ws Inv-loop μ-loop
 add-ws c = omega arith
 
--- src/opening.rt:29:9
 mul-ws-2 : tie.Need-mul-ws-2 Inv-loop μ-loop
 mul-ws-2 c = omega arith
 
--- src/opening.rt:29:9
 slice-write-ws : tie.Need-slice-write-ws Inv-loop μ-loop
 slice-write-ws c = omega arith
 
--- src/opening.rt:30:9
 add-i : tie.Need-add-i Inv-loop μ-loop
 add-i c = omega arith
 
--- src/opening.rt:28:5
 loop-less : tie.Need-loop-less Inv-loop μ-loop
 loop-less c = omega arith
 
--- src/opening.rt:28:5
 loop-again : tie.Need-loop-again Inv-loop μ-loop
 loop-again c =
     let s = c .before .before .loop in
@@ -60,11 +50,9 @@ loop-again c =
       rw (add-one (s .i)) (ap (λ l. set l (3 + s .i) x) (s .inv .2) ∙ paste-suc (a .ws .now) 3 (a .factors .now) (s .i) 0 (omega arith) (c .before .loop-test .taken)),
     )
 
--- src/opening.rt:23:1
 same-length : tie.Need-same-length Inv-loop μ-loop
 same-length c = c .before .loop .inv .1
 
--- src/opening.rt:23:1
 returns : tie.Need-returns Inv-loop μ-loop
 returns c =
     let a = c .before .before .args in

@@ -1,39 +1,30 @@
+-- `words::packets::packet_kept` meets its contract.
 use Rattle.meaning.specs.Box.{connection}
-use lib.ListN.{length, getD, take, drop, set}
-use Rattle.words.proofs.TableReads.{row-parts, packet-parts, settings-parts, connection-longest, kept-connection, rank-at, largest-at, lengths-most, tables-tested}
-use Rattle.words.specs.Contents.{contents, packetAt, settingsAt, standingAt, standings, turnsAt}
-use Rattle.words.specs.Places.{word, lengthsBelow}
-use Rattle.laws.specs.Tests.{within, every, within-facts, within-test}
-use mathlib.Core.Bool.{Bool, true, false, _&&_, and-false, or-false}
-use borrow.Author.Tests.{leb-true, leb-false, le-leb, lt-leb, lt-ltb, le-ltb, eq-eqb, ne-eqb, not-true, not-false}
+use Rattle.words.proofs.TableReads.{packet-parts, connection-longest}
+use Rattle.words.specs.Contents.{contents}
+use Rattle.words.specs.Places.{word}
+use Rattle.laws.specs.Tests.{within, within-facts}
+use mathlib.Core.Bool.{true, false, and-false}
+use borrow.Author.Tests.{not-true, not-false}
 use native.Mathlib.Omega.{arith}
-use mathlib.Core.Path.{_≡_, refl, sym, ap, _∙_}
-use Prim.Native.Nat.{ℕ, suc, _+_, _*_, _-_, _^_, _/_, _%_, _≤_, _<_}
+use mathlib.Core.Path.{_≡_, sym, ap, _∙_}
+use Prim.Native.Nat.{_+_, _*_, _-_}
 use borrow.Author.Needs.{needs}
 use Rattle.words.proofs.packets.packet_kept.Statement.{statement}
 use Rattle.words.proofs.packets.packet_kept.Tie as tie
-use Rattle.words.proofs.packets.packet_kept.Reads as reads
-use Rattle.words.proofs.packets.packet_kept.Lts as lts
-use Rattle.words.proofs.numbers.is_within.Reads as is-within-reads
-use Rattle.words.proofs.numbers.wide.Reads as wide-reads
 
--- src/packets.rt:19:22
 mul-is-within : tie.Need-mul-is-within
 mul-is-within c = search needs
 
--- src/packets.rt:19:22
 shared-slice-read-is-within : tie.Need-shared-slice-read-is-within
 shared-slice-read-is-within c = search needs
 
--- src/packets.rt:19:30
 shared-slice-read-is-within-2 : tie.Need-shared-slice-read-is-within-2
 shared-slice-read-is-within-2 c = search needs
 
--- src/packets.rt:19:9
 is-within-requires : tie.Need-is-within-requires
 is-within-requires c κs = search needs
 
--- src/packets.rt:20:9
 returns : tie.Need-returns
 returns c =
     let ws = c .before .before .before .before .before .args .ws .now in
@@ -41,27 +32,21 @@ returns c =
     let e : within 1 (word ws at) (word ws 205) ≡ false = sym (c .before .is-within .ensures) ∙ not-true _ (c .if1 .taken) in
     sym (packet-parts ws at ∙ simp (e, and-false))
 
--- src/packets.rt:22:25
 add-connection : tie.Need-add-connection
 add-connection c = search needs
 
--- src/packets.rt:22:22
 mul-connection : tie.Need-mul-connection
 mul-connection c = search needs
 
--- src/packets.rt:22:22
 shared-slice-read-connection : tie.Need-shared-slice-read-connection
 shared-slice-read-connection c = search needs
 
--- src/packets.rt:23:34
 shared-slice-read-is-within-3 : tie.Need-shared-slice-read-is-within-3
 shared-slice-read-is-within-3 c = search needs
 
--- src/packets.rt:23:9
 is-within-requires-2 : tie.Need-is-within-requires-2
 is-within-requires-2 c κs = search needs
 
--- src/packets.rt:24:9
 returns-2 : tie.Need-returns-2
 returns-2 c =
     let ws = c .before .before .before .before .before .before .before .before .before .args .ws .now in
@@ -69,39 +54,30 @@ returns-2 c =
     let e : within 1 (word ws (at + 1)) (word ws 11) ≡ false = sym (c .before .is-within2 .ensures) ∙ not-true _ (c .if2 .taken) in
     sym (packet-parts ws at ∙ simp (e, and-false))
 
--- src/packets.rt:26:25
 add-is-within : tie.Need-add-is-within
 add-is-within c = search needs
 
--- src/packets.rt:26:22
 mul-is-within-2 : tie.Need-mul-is-within-2
 mul-is-within-2 c = search needs
 
--- src/packets.rt:26:22
 shared-slice-read-is-within-4 : tie.Need-shared-slice-read-is-within-4
 shared-slice-read-is-within-4 c = search needs
 
--- src/packets.rt:26:50
 wide-requires : tie.Need-wide-requires
 wide-requires c κs = search needs
 
--- src/packets.rt:26:46
 add-is-within-2 : tie.Need-add-is-within-2
 add-is-within-2 c = search needs
 
--- src/packets.rt:26:41
 mul-is-within-3 : tie.Need-mul-is-within-3
 mul-is-within-3 c = search needs
 
--- src/packets.rt:26:37
 add-is-within-3 : tie.Need-add-is-within-3
 add-is-within-3 c = search needs
 
--- src/packets.rt:26:34
 mul-is-within-4 : tie.Need-mul-is-within-4
 mul-is-within-4 c = search needs
 
--- src/packets.rt:26:34
 shared-slice-read-is-within-5 : tie.Need-shared-slice-read-is-within-5
 shared-slice-read-is-within-5 c =
     let f = within-facts 1 _ _ (sym (c .before .before .before .before .is-within2 .ensures) ∙ not-false _ (c .before .before .before .if2 .left)) in
@@ -109,11 +85,9 @@ shared-slice-read-is-within-5 c =
     let k = c .before .before .before .before .before .before .before .before .before .before .before .before .pre .0 in
     omega (arith, k .enough, k .rows)
 
--- src/packets.rt:26:9
 is-within-requires-3 : tie.Need-is-within-requires-3
 is-within-requires-3 c κs = search needs
 
--- src/packets.rt:27:9
 returns-3 : tie.Need-returns-3
 returns-3 c =
     let ws = c .before .before .before .before .before .before .before .before .before .before .before .before .before .before .args .ws .now in
@@ -125,23 +99,18 @@ returns-3 c =
     sym (c .before .is-within3 .ensures) ∙ not-true _ (c .if3 .taken) in
     sym (packet-parts ws at ∙ simp (e, and-false))
 
--- src/packets.rt:29:8
 add-result : tie.Need-add-result
 add-result c = search needs
 
--- src/packets.rt:29:5
 mul-result : tie.Need-mul-result
 mul-result c = search needs
 
--- src/packets.rt:29:5
 shared-slice-read-result : tie.Need-shared-slice-read-result
 shared-slice-read-result c = search needs
 
--- src/packets.rt:29:19
 shared-slice-read-result-2 : tie.Need-shared-slice-read-result-2
 shared-slice-read-result-2 c = search needs
 
--- src/packets.rt:15:1
 returns-4 : tie.Need-returns-4
 returns-4 c =
     let ws = c .before .before .before .before .before .before .before .before .before .before .before .before .before .before .before .before .args .ws .now in

@@ -1,18 +1,14 @@
-use mathlib.Core.Bool.{Bool, true, false, _&&_, and-false, or-false}
-use lib.ListN.{length, getD, take, drop, set}
-use Rattle.laws.specs.Series.{series, series-next, series-done, series-take, every-stop, every-next, every-end}
-use Rattle.words.specs.Tested.{settingsTested, rowKept, rowsTested, linkTested, countsTested, packetFits, packetsFit, queueFits, queuesTested}
-use Rattle.words.specs.Contents.{contents, packetAt, settingsAt, standingAt, standings, turnsAt}
-use Rattle.words.specs.Places.{word, lengthsBelow}
-use borrow.Author.Tests.{leb-true, leb-false, le-leb, lt-leb, lt-ltb, le-ltb, eq-eqb, ne-eqb, not-true, not-false}
+-- `words::packets::packets_fit` meets its contract.
+use Rattle.laws.specs.Series.{series, series-next, series-done}
+use Rattle.words.specs.Tested.{packetsFit}
+use Rattle.words.specs.Contents.{contents, packetAt}
+use Rattle.words.specs.Places.{word}
+use borrow.Author.Tests.{not-true, not-false}
 use native.Mathlib.Omega.{arith}
-use mathlib.Core.Path.{_≡_, refl, sym, ap, _∙_}
-use Prim.Native.Nat.{ℕ, suc, _+_, _*_, _-_, _^_, _/_, _%_, _≤_, _<_}
+use mathlib.Core.Path.{_≡_, sym, ap, _∙_}
+use Prim.Native.Nat.{_+_, _*_, _-_, _≤_}
 use Rattle.words.proofs.packets.packets_fit.Statement.{statement}
 use Rattle.words.proofs.packets.packets_fit.Tie as tie
-use Rattle.words.proofs.packets.packets_fit.Reads as reads
-use Rattle.words.proofs.packets.packets_fit.Lts as lts
-use Rattle.words.proofs.packets.packet_fits.Reads as packet-fits-reads
 
 abbrev Inv-loop : tie.InvT-loop
 Inv-loop ws start count rank before₀ at₀ i₀ before at i = (i ≤ count) × (at ≡ start + 4 * i) × (packetsFit (contents ws) rank before (series (packetAt ws) 4 at (count - i)) ≡ packetsFit (contents ws) rank 0 (series (packetAt ws) 4 start count))
@@ -20,7 +16,6 @@ Inv-loop ws start count rank before₀ at₀ i₀ before at i = (i ≤ count) ×
 abbrev μ-loop : tie.MeasureT-loop
 μ-loop ws start count rank before₀ at₀ i₀ before at i = count - i
 
--- src/packets.rt:64:5
 loop-holds : tie.Need-loop-holds Inv-loop μ-loop
 loop-holds c =
     let a = c .before .args in
@@ -28,11 +23,9 @@ loop-holds c =
     let e : a .count - 0 ≡ a .count = omega arith in
     (omega arith, omega arith, ap (λ n. packetsFit (contents ws) (a .rank) 0 (series (packetAt ws) 4 (a .start) n)) e)
 
--- src/packets.rt:65:13
 packet-fits-requires : tie.Need-packet-fits-requires Inv-loop μ-loop
 packet-fits-requires c κs = (c .before .before .before .pre .0, omega (arith, c .before .before .before .pre .1))
 
--- src/packets.rt:66:13
 returns : tie.Need-returns Inv-loop μ-loop
 unfolding packetsFit
 returns c =
@@ -44,27 +37,21 @@ returns c =
       sym (c .before .packet-fits .ensures) ∙ not-true _ (c .if1 .taken),
     ))
 
--- src/packets.rt:68:18
 mul-before : tie.Need-mul-before Inv-loop μ-loop
 mul-before c = omega (arith, c .before .before .before .before .before .pre .1)
 
--- src/packets.rt:68:18
 shared-slice-read-before : tie.Need-shared-slice-read-before Inv-loop μ-loop
 shared-slice-read-before c = omega (arith, c .before .before .before .before .before .before .pre .1)
 
--- src/packets.rt:69:9
 add-at : tie.Need-add-at Inv-loop μ-loop
 add-at c = omega (arith, c .before .before .before .before .before .before .pre .1)
 
--- src/packets.rt:70:9
 add-i : tie.Need-add-i Inv-loop μ-loop
 add-i c = omega arith
 
--- src/packets.rt:64:5
 loop-less : tie.Need-loop-less Inv-loop μ-loop
 loop-less c = omega arith
 
--- src/packets.rt:64:5
 loop-again : tie.Need-loop-again Inv-loop μ-loop
 unfolding packetsFit packetAt
 loop-again c =
@@ -76,7 +63,6 @@ loop-again c =
     rw (series-next (packetAt ws) 4 (s .at) (a .count) (s .i) (c .before .before .before .loop-test .taken), sym (c .before .before .packet-fits .ensures) ∙ not-false _ (c .before .if1 .left)) in
     (omega arith, omega arith, sym e ∙ s .inv .2)
 
--- src/packets.rt:57:1
 returns-2 : tie.Need-returns-2 Inv-loop μ-loop
 unfolding packetsFit
 returns-2 c =

@@ -1,46 +1,34 @@
-use lib.ListN.{length, getD, take, drop, set}
-use Rattle.words.proofs.TableReads.{row-parts, packet-parts, settings-parts, connection-longest, kept-connection, rank-at, largest-at, lengths-most, tables-tested}
-use Rattle.words.specs.Contents.{contents, packetAt, settingsAt, standingAt, standings, turnsAt}
-use Rattle.words.specs.Places.{word, lengthsBelow}
+-- `words::packets::rank_of` meets its contract.
+use Rattle.words.proofs.TableReads.{kept-connection, rank-at}
+use Rattle.words.specs.Places.{word}
 use native.Mathlib.Omega.{arith}
-use mathlib.Core.Path.{_≡_, refl, sym, ap, _∙_}
-use Prim.Native.Nat.{ℕ, suc, _+_, _*_, _-_, _^_, _/_, _%_, _≤_, _<_}
+use mathlib.Core.Path.{_≡_, sym, ap, _∙_}
+use Prim.Native.Nat.{_+_, _*_, _-_}
 use borrow.Author.Needs.{needs}
 use Rattle.words.proofs.packets.rank_of.Statement.{statement}
 use Rattle.words.proofs.packets.rank_of.Tie as tie
-use Rattle.words.proofs.packets.rank_of.Reads as reads
-use Rattle.words.proofs.packets.rank_of.Lts as lts
-use Rattle.words.proofs.numbers.wide.Reads as wide-reads
 
--- src/packets.rt:38:42
 add-wide : tie.Need-add-wide
 add-wide c = search needs
 
--- src/packets.rt:38:39
 mul-wide : tie.Need-mul-wide
 mul-wide c = search needs
 
--- src/packets.rt:38:39
 shared-slice-read-wide : tie.Need-shared-slice-read-wide
 shared-slice-read-wide c = search needs
 
--- src/packets.rt:38:34
 wide-requires : tie.Need-wide-requires
 wide-requires c κs = search needs
 
--- src/packets.rt:38:30
 add-wide-2 : tie.Need-add-wide-2
 add-wide-2 c = search needs
 
--- src/packets.rt:38:25
 mul-wide-2 : tie.Need-mul-wide-2
 mul-wide-2 c = search needs
 
--- src/packets.rt:38:22
 mul-wide-3 : tie.Need-mul-wide-3
 mul-wide-3 c = search needs
 
--- src/packets.rt:38:22
 shared-slice-read-wide-2 : tie.Need-shared-slice-read-wide-2
 shared-slice-read-wide-2 c =
     let s = c .before .before .before .before in
@@ -48,43 +36,33 @@ shared-slice-read-wide-2 c =
     let k = s .pre .0 .0 in
     omega (arith, k .enough, k .rows, c .before .wide .ensures .0)
 
--- src/packets.rt:38:9
 wide-requires-2 : tie.Need-wide-requires-2
 wide-requires-2 c κs = search needs
 
--- src/packets.rt:39:13
 add-wide-3 : tie.Need-add-wide-3
 add-wide-3 c = search needs
 
--- src/packets.rt:39:10
 mul-wide-4 : tie.Need-mul-wide-4
 mul-wide-4 c = search needs
 
--- src/packets.rt:39:10
 shared-slice-read-wide-3 : tie.Need-shared-slice-read-wide-3
 shared-slice-read-wide-3 c = search needs
 
--- src/packets.rt:39:23
 shared-slice-read-wide-4 : tie.Need-shared-slice-read-wide-4
 shared-slice-read-wide-4 c = search needs
 
--- src/packets.rt:39:10
 div-wide : tie.Need-div-wide
 div-wide c = search needs
 
--- src/packets.rt:39:5
 wide-requires-3 : tie.Need-wide-requires-3
 wide-requires-3 c κs = search needs
 
--- src/packets.rt:39:40
 add-wide-4 : tie.Need-add-wide-4
 add-wide-4 c = search needs
 
--- src/packets.rt:39:37
 mul-wide-5 : tie.Need-mul-wide-5
 mul-wide-5 c = search needs
 
--- src/packets.rt:39:37
 shared-slice-read-wide-5 : tie.Need-shared-slice-read-wide-5
 shared-slice-read-wide-5 c =
     let s = c .before .before .before .before .before .before .before .before .before in
@@ -96,15 +74,12 @@ shared-slice-read-wide-5 c =
     let q : c .before .before .before .before .wide2 .result ≡ word ws (12 + 6 * (n - 1)) = c .before .before .before .before .wide2 .ensures .0 ∙ ap (λ i. word ws i) e in
     omega (arith, k .enough, k .classes, k .class-most (n - 1) (omega arith))
 
--- src/packets.rt:39:32
 wide-requires-4 : tie.Need-wide-requires-4
 wide-requires-4 c κs = search needs
 
--- src/packets.rt:39:5
 add-result : tie.Need-add-result
 add-result c = search needs
 
--- src/packets.rt:33:1
 returns : tie.Need-returns
 returns c =
     let s = c .before .before .before .before .before .before .before .before .before .before in

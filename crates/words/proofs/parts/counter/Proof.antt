@@ -1,16 +1,13 @@
-use mathlib.Core.Path.{_≡_, refl, sym, ap, _∙_}
-use Rattle.words.specs.Contents.{contents, settingsAt, standings, standingAt, packetAt, linkOf, turnsAt, queueAt}
+-- `words::parts::counter` meets its contract.
+use mathlib.Core.Path.{refl}
+use Rattle.words.specs.Contents.{contents}
 use borrow.Author.Needs.{needs}
 use Rattle.words.proofs.parts.counter.Statement.{statement}
 use Rattle.words.proofs.parts.counter.Tie as tie
-use Rattle.words.proofs.parts.counter.Reads as reads
-use Rattle.words.proofs.parts.counter.Lts as lts
 
--- src/parts.rt:41:5
 shared-slice-read-result : tie.Need-shared-slice-read-result
 shared-slice-read-result c = search needs
 
--- src/parts.rt:37:1
 returns : tie.Need-returns
 unfolding contents
 returns c = refl

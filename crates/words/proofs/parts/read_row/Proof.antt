@@ -1,97 +1,72 @@
+-- `words::parts::read_row` meets its contract.
 use Rattle.words.proofs.TableReads.{connection-at, allowance-at}
-use Rattle.words.specs.Places.{word}
-use Rattle.words.specs.Contents.{contents, standingAt}
-use native.Mathlib.Omega.{arith}
-use mathlib.Core.Path.{_≡_, refl, sym, ap, _∙_}
-use Prim.Native.Nat.{ℕ, suc, _+_, _*_, _-_, _^_, _/_, _%_, _≤_, _<_}
+use Rattle.words.specs.Contents.{standingAt}
+use mathlib.Core.Path.{sym, ap, _∙_}
+use Prim.Native.Nat.{_+_, _*_, _-_}
 use borrow.Author.Needs.{needs}
 use Rattle.words.proofs.parts.read_row.Statement.{statement}
 use Rattle.words.proofs.parts.read_row.Tie as tie
-use Rattle.words.proofs.parts.read_row.Reads as reads
-use Rattle.words.proofs.parts.read_row.Lts as lts
-use Rattle.words.proofs.numbers.wide.Reads as wide-reads
 
--- src/parts.rt:73:23
 wide-requires : tie.Need-wide-requires
 wide-requires c κs = search needs
 
--- src/parts.rt:73:19
 add-at : tie.Need-add-at
 add-at c = search needs
 
--- src/parts.rt:73:14
 mul-at : tie.Need-mul-at
 mul-at c = search needs
 
--- src/parts.rt:75:16
 mul-t4 : tie.Need-mul-t4
 mul-t4 c = search needs
 
--- src/parts.rt:75:16
 shared-slice-read-t7 : tie.Need-shared-slice-read-t7
 shared-slice-read-t7 c = search needs
 
--- src/parts.rt:76:21
 add-t5 : tie.Need-add-t5
 add-t5 c = search needs
 
--- src/parts.rt:76:18
 mul-t8 : tie.Need-mul-t8
 mul-t8 c = search needs
 
--- src/parts.rt:76:18
 shared-slice-read-t10 : tie.Need-shared-slice-read-t10
 shared-slice-read-t10 c = search needs
 
--- src/parts.rt:77:19
 add-t11 : tie.Need-add-t11
 add-t11 c = search needs
 
--- src/parts.rt:77:16
 mul-t12 : tie.Need-mul-t12
 mul-t12 c = search needs
 
--- src/parts.rt:77:16
 shared-slice-read-t14 : tie.Need-shared-slice-read-t14
 shared-slice-read-t14 c = search needs
 
--- src/parts.rt:78:20
 add-t15 : tie.Need-add-t15
 add-t15 c = search needs
 
--- src/parts.rt:78:17
 mul-t16 : tie.Need-mul-t16
 mul-t16 c = search needs
 
--- src/parts.rt:78:17
 shared-slice-read-t18 : tie.Need-shared-slice-read-t18
 shared-slice-read-t18 c = search needs
 
--- src/parts.rt:79:18
 add-t19 : tie.Need-add-t19
 add-t19 c = search needs
 
--- src/parts.rt:79:15
 mul-t20 : tie.Need-mul-t20
 mul-t20 c = search needs
 
--- src/parts.rt:79:15
 shared-slice-read-t22 : tie.Need-shared-slice-read-t22
 shared-slice-read-t22 c = search needs
 
--- src/parts.rt:80:20
 add-t23 : tie.Need-add-t23
 add-t23 c = search needs
 
--- src/parts.rt:80:17
 mul-t24 : tie.Need-mul-t24
 mul-t24 c = search needs
 
--- src/parts.rt:80:17
 shared-slice-read-t26 : tie.Need-shared-slice-read-t26
 shared-slice-read-t26 c = search needs
 
--- src/parts.rt:69:1
 returns : tie.Need-returns
 unfolding standingAt
 returns c =

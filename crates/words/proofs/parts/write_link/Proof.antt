@@ -1,33 +1,23 @@
+-- `words::parts::write_link` meets its contract.
 use Rattle.meaning.specs.Box.{Packet}
 use Rattle.words.proofs.LinkWritten.{link-written}
 use lib.ListN.{length-set}
-use lib.ListN.{length, getD, take, drop, set}
-use Rattle.words.proofs.SmallChanges.{accepted-become, link-become, raise-become}
+use Rattle.words.proofs.SmallChanges.{link-become}
 use native.Mathlib.Omega.{arith}
-use mathlib.Core.Path.{_≡_, refl, sym, ap, _∙_}
-use Rattle.words.specs.Places.{word, placeOf, lengthsBelow}
-use Rattle.words.specs.Contents.{contents, settingsAt, standings, standingAt, packetAt, linkOf, turnsAt, queueAt}
-use Prim.Native.Nat.{ℕ, suc, _+_, _*_, _-_, _^_, _/_, _%_, _≤_, _<_}
+use Prim.Native.Nat.{_-_}
 use borrow.Author.Needs.{needs}
 use Rattle.words.proofs.parts.write_link.Statement.{statement}
 use Rattle.words.proofs.parts.write_link.Tie as tie
-use Rattle.words.proofs.parts.write_link.Reads as reads
-use Rattle.words.proofs.parts.write_link.Lts as lts
-use Rattle.words.proofs.moves.write_packet.Reads as write-packet-reads
 
--- src/parts.rt:103:5
 slice-write-ws : tie.Need-slice-write-ws
 slice-write-ws c = search needs
 
--- src/parts.rt:104:5
 write-packet-requires : tie.Need-write-packet-requires
 write-packet-requires c κs = simp length-set (omega (arith, c .before .before .pre .0 .enough))
 
--- src/parts.rt:99:1
 same-length : tie.Need-same-length
 same-length c = simp length-set at (c .before .before .write-packet .kept .0)
 
--- src/parts.rt:99:1
 returns : tie.Need-returns
 returns c =
     let g = c .before .before .before .before .before .args in

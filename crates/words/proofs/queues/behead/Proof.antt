@@ -1,52 +1,37 @@
-use lib.ListN.{length, getD, take, drop, set}
-use lib.ListN.{length-set}
-use Rattle.words.proofs.Shift.{lengths-next, lengths-rise}
+-- `words::queues::behead` meets its contract.
 use Rattle.words.proofs.TableReads.{lengths-most}
-use Rattle.words.proofs.JoinTake.{joined-become, behead-become}
+use Rattle.words.proofs.JoinTake.{behead-become}
 use Rattle.words.specs.Places.{word, placeOf, lengthsBelow}
 use Rattle.words.specs.Contents.{contents, turnsAt}
 use native.Mathlib.Omega.{arith}
-use mathlib.Core.Path.{_≡_, refl, sym, ap, _∙_}
-use Prim.Native.Nat.{ℕ, suc, _+_, _*_, _-_, _^_, _/_, _%_, _≤_, _<_}
+use mathlib.Core.Path.{_≡_, ap, _∙_}
+use Prim.Native.Nat.{_+_, _*_, _-_}
 use borrow.Author.Needs.{needs}
 use Rattle.words.proofs.queues.behead.Statement.{statement}
 use Rattle.words.proofs.queues.behead.Tie as tie
-use Rattle.words.proofs.queues.behead.Reads as reads
-use Rattle.words.proofs.queues.behead.Lts as lts
-use Rattle.words.proofs.moves.move_down.Reads as move-down-reads
-use Rattle.words.proofs.numbers.lengths_below.Reads as lengths-below-reads
-use Rattle.words.proofs.queues.place_of.Reads as place-of-reads
 
--- src/queues.rt:68:9
 place-of-requires : tie.Need-place-of-requires
 unfolding contents
 place-of-requires c κs = (c .before .before .pre .0, omega (arith, c .before .before .pre .0 .largest, c .before .before .pre .1))
 
--- src/queues.rt:69:25
 lengths-below-requires : tie.Need-lengths-below-requires
 lengths-below-requires c κs = search needs
 
--- src/queues.rt:69:21
 mul-end : tie.Need-mul-end
 mul-end c = search needs
 
--- src/queues.rt:69:15
 add-end : tie.Need-add-end
 add-end c = search needs
 
--- src/queues.rt:70:24
 lengths-below-requires-2 : tie.Need-lengths-below-requires-2
 lengths-below-requires-2 c κs = search needs
 
--- src/queues.rt:70:20
 mul-at : tie.Need-mul-at
 mul-at c = search needs
 
--- src/queues.rt:70:14
 add-at : tie.Need-add-at
 add-at c = search needs
 
--- src/queues.rt:71:5
 move-down-requires : tie.Need-move-down-requires
 move-down-requires c κs =
     let s = c .before .before .before .before .before .before .before .before in
@@ -60,19 +45,15 @@ move-down-requires c κs =
     let w = ap (λ m. word ws (211 + m)) (c .before .before .before .before .before .place-of .ensures .0) in
     (omega (arith, s .pre .2), omega (arith, k .enough, k .total))
 
--- src/queues.rt:72:26
 add-ws : tie.Need-add-ws
 add-ws c = search needs
 
--- src/queues.rt:72:23
 mul-ws : tie.Need-mul-ws
 mul-ws c = search needs
 
--- src/queues.rt:72:23
 slice-read-ws : tie.Need-slice-read-ws
 slice-read-ws c = search needs
 
--- src/queues.rt:72:23
 sub-ws : tie.Need-sub-ws
 sub-ws c =
     let s = c .before .before .before .before .before .before .before .before .before .before .before .before in
@@ -87,23 +68,18 @@ sub-ws c =
     let b = c .before .before .before .move-down .ensures .below (211 + P) (omega arith) in
     omega (arith, s .pre .2)
 
--- src/queues.rt:72:8
 add-ws-2 : tie.Need-add-ws-2
 add-ws-2 c = search needs
 
--- src/queues.rt:72:5
 mul-ws-2 : tie.Need-mul-ws-2
 mul-ws-2 c = search needs
 
--- src/queues.rt:72:5
 slice-write-ws : tie.Need-slice-write-ws
 slice-write-ws c = search needs
 
--- src/queues.rt:64:1
 same-length : tie.Need-same-length
 same-length c = search needs
 
--- src/queues.rt:64:1
 returns : tie.Need-returns
 unfolding contents
 returns c =

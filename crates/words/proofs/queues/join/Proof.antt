@@ -1,60 +1,45 @@
-use lib.ListN.{length, getD, take, drop, set}
+-- `words::queues::join` meets its contract.
 use lib.ListN.{length-set}
-use Rattle.words.proofs.Shift.{lengths-next, lengths-rise}
+use Rattle.words.proofs.Shift.{lengths-next}
 use Rattle.words.proofs.TableReads.{lengths-most}
-use Rattle.words.proofs.JoinTake.{joined-become, behead-become}
+use Rattle.words.proofs.JoinTake.{joined-become}
 use Rattle.words.specs.Places.{word, placeOf, lengthsBelow}
 use Rattle.words.specs.Contents.{contents, turnsAt}
 use native.Mathlib.Omega.{arith}
-use mathlib.Core.Path.{_≡_, refl, sym, ap, _∙_}
-use Prim.Native.Nat.{ℕ, suc, _+_, _*_, _-_, _^_, _/_, _%_, _≤_, _<_}
+use mathlib.Core.Path.{_≡_, refl, ap, _∙_}
+use Prim.Native.Nat.{ℕ, suc, _+_, _*_, _-_}
 use borrow.Author.Needs.{needs}
 use Rattle.words.proofs.queues.join.Statement.{statement}
 use Rattle.words.proofs.queues.join.Tie as tie
-use Rattle.words.proofs.queues.join.Reads as reads
-use Rattle.words.proofs.queues.join.Lts as lts
-use Rattle.words.proofs.moves.move_up.Reads as move-up-reads
-use Rattle.words.proofs.moves.write_packet.Reads as write-packet-reads
-use Rattle.words.proofs.numbers.lengths_below.Reads as lengths-below-reads
-use Rattle.words.proofs.queues.place_of.Reads as place-of-reads
 
 one-more : (n : ℕ) → n + 1 ≡ suc n
 one-more n = omega arith
 
--- src/queues.rt:55:9
 place-of-requires : tie.Need-place-of-requires
 unfolding contents
 place-of-requires c κs = (c .before .before .pre .0, omega (arith, c .before .before .pre .0 .largest, c .before .before .pre .1))
 
--- src/queues.rt:56:25
 lengths-below-requires : tie.Need-lengths-below-requires
 lengths-below-requires c κs = search needs
 
--- src/queues.rt:56:21
 mul-end : tie.Need-mul-end
 mul-end c = search needs
 
--- src/queues.rt:56:15
 add-end : tie.Need-add-end
 add-end c = search needs
 
--- src/queues.rt:57:42
 add-lengths-below : tie.Need-add-lengths-below
 add-lengths-below c = search needs
 
--- src/queues.rt:57:24
 lengths-below-requires-2 : tie.Need-lengths-below-requires-2
 lengths-below-requires-2 c κs = search needs
 
--- src/queues.rt:57:20
 mul-at : tie.Need-mul-at
 mul-at c = search needs
 
--- src/queues.rt:57:14
 add-at : tie.Need-add-at
 add-at c = search needs
 
--- src/queues.rt:58:5
 move-up-requires : tie.Need-move-up-requires
 move-up-requires c κs =
     let s = c .before .before .before .before .before .before .before .before in
@@ -68,7 +53,6 @@ move-up-requires c κs =
     let n = ap (lengthsBelow ws) (one-more P) ∙ lengths-next ws P in
     (omega arith, omega (arith, k .enough, s .pre .2))
 
--- src/queues.rt:59:5
 write-packet-requires : tie.Need-write-packet-requires
 write-packet-requires c κs =
     let s = c .before .before .before .before .before .before .before .before .before .before .before .before in
@@ -82,19 +66,15 @@ write-packet-requires c κs =
     let n = ap (lengthsBelow ws) (one-more P) ∙ lengths-next ws P in
     omega (arith, k .enough, s .pre .2, c .before .before .before .move-up .kept .0)
 
--- src/queues.rt:60:26
 add-ws : tie.Need-add-ws
 add-ws c = search needs
 
--- src/queues.rt:60:23
 mul-ws : tie.Need-mul-ws
 mul-ws c = search needs
 
--- src/queues.rt:60:23
 slice-read-ws : tie.Need-slice-read-ws
 slice-read-ws c = search needs
 
--- src/queues.rt:60:23
 add-ws-2 : tie.Need-add-ws-2
 add-ws-2 c =
     let s = c .before .before .before .before .before .before .before .before .before .before .before .before .before .before .before .before in
@@ -109,23 +89,18 @@ add-ws-2 c =
     let b = c .before .before .before .write-packet .ensures .below (211 + P) (omega arith) ∙ c .before .before .before .before .before .before .before .move-up .ensures .below (211 + P) (omega arith) in
     record { fits = omega (arith, s .pre .2) }
 
--- src/queues.rt:60:8
 add-ws-3 : tie.Need-add-ws-3
 add-ws-3 c = search needs
 
--- src/queues.rt:60:5
 mul-ws-2 : tie.Need-mul-ws-2
 mul-ws-2 c = search needs
 
--- src/queues.rt:60:5
 slice-write-ws : tie.Need-slice-write-ws
 slice-write-ws c = search needs
 
--- src/queues.rt:51:1
 same-length : tie.Need-same-length
 same-length c = simp length-set (c .before .before .before .write-packet .kept .0 ∙ c .before .before .before .before .before .before .before .move-up .kept .0)
 
--- src/queues.rt:51:1
 returns : tie.Need-returns
 unfolding contents
 returns c =

@@ -1,23 +1,15 @@
+-- `words::queues::load_from` meets its contract.
 use Rattle.words.proofs.Shift.{start-is}
-use Rattle.words.proofs.Counts.{sound-fitting}
-use Rattle.words.proofs.Loading.{link-free, link-busy, head-facts, loaded-become, busy-become, idle-become}
+use Rattle.words.proofs.Loading.{head-facts, loaded-become}
 use Rattle.words.specs.Places.{word, placeOf, lengthsBelow, startOf}
-use Rattle.words.specs.Contents.{contents, settingsAt, packetAt, linkOf, turnsAt}
-use lib.ListN.{length, getD, take, drop, set}
+use Rattle.words.specs.Contents.{contents, packetAt, turnsAt}
 use native.Mathlib.Omega.{arith}
-use mathlib.Core.Path.{_≡_, refl, sym, ap, _∙_}
-use Prim.Native.Nat.{ℕ, suc, _+_, _*_, _-_, _^_, _/_, _%_, _≤_, _<_}
+use mathlib.Core.Path.{_≡_, sym, ap, _∙_}
+use Prim.Native.Nat.{_+_, _*_, _-_, _≤_}
 use borrow.Author.Needs.{needs}
 use Rattle.words.proofs.queues.load_from.Statement.{statement}
 use Rattle.words.proofs.queues.load_from.Tie as tie
-use Rattle.words.proofs.queues.load_from.Reads as reads
-use Rattle.words.proofs.queues.load_from.Lts as lts
-use Rattle.words.proofs.numbers.lengths_below.Reads as lengths-below-reads
-use Rattle.words.proofs.parts.write_link.Reads as write-link-reads
-use Rattle.words.proofs.queues.behead.Reads as behead-reads
-use Rattle.words.proofs.queues.place_of.Reads as place-of-reads
 
--- src/queues.rt:93:42
 place-of-requires : tie.Need-place-of-requires
 unfolding contents
 place-of-requires c κs =
@@ -26,7 +18,6 @@ place-of-requires c κs =
     let k = head-facts ws (s .args .tag) (s .pre .0) (s .pre .1) (s .pre .2) in
     (k .fitting, omega (arith, k .fitting .largest, s .pre .2))
 
--- src/queues.rt:93:24
 lengths-below-requires : tie.Need-lengths-below-requires
 unfolding contents
 lengths-below-requires c κs =
@@ -35,19 +26,15 @@ lengths-below-requires c κs =
     let k = head-facts ws (s .args .tag) (s .pre .0) (s .pre .1) (s .pre .2) in
     (omega (arith, c .place-of .ensures .1), omega (arith, k .fitting .enough))
 
--- src/queues.rt:93:20
 mul-at : tie.Need-mul-at
 mul-at c = search needs
 
--- src/queues.rt:93:14
 add-at : tie.Need-add-at
 add-at c = search needs
 
--- src/queues.rt:94:18
 mul-serial : tie.Need-mul-serial
 mul-serial c = search needs
 
--- src/queues.rt:94:18
 slice-read-serial : tie.Need-slice-read-serial
 unfolding contents
 slice-read-serial c =
@@ -60,15 +47,12 @@ slice-read-serial c =
     ap (λ m. 275 + 4 * m) (c .before .lengths-below .ensures .0 ∙ ap (lengthsBelow ws) q) ∙ sym b in
     omega (arith, k .fits)
 
--- src/queues.rt:95:25
 add-connection : tie.Need-add-connection
 add-connection c = search needs
 
--- src/queues.rt:95:22
 mul-connection : tie.Need-mul-connection
 mul-connection c = search needs
 
--- src/queues.rt:95:22
 slice-read-connection : tie.Need-slice-read-connection
 unfolding contents
 slice-read-connection c =
@@ -81,15 +65,12 @@ slice-read-connection c =
     ap (λ m. 275 + 4 * m) (c .before .before .lengths-below .ensures .0 ∙ ap (lengthsBelow ws) q) ∙ sym b in
     omega (arith, k .fits)
 
--- src/queues.rt:96:20
 add-units : tie.Need-add-units
 add-units c = search needs
 
--- src/queues.rt:96:17
 mul-units : tie.Need-mul-units
 mul-units c = search needs
 
--- src/queues.rt:96:17
 slice-read-units : tie.Need-slice-read-units
 unfolding contents
 slice-read-units c =
@@ -102,15 +83,12 @@ slice-read-units c =
     ap (λ m. 275 + 4 * m) (c .before .before .before .lengths-below .ensures .0 ∙ ap (lengthsBelow ws) q) ∙ sym b in
     omega (arith, k .fits)
 
--- src/queues.rt:97:22
 add-arrival : tie.Need-add-arrival
 add-arrival c = search needs
 
--- src/queues.rt:97:19
 mul-arrival : tie.Need-mul-arrival
 mul-arrival c = search needs
 
--- src/queues.rt:97:19
 slice-read-arrival : tie.Need-slice-read-arrival
 unfolding contents
 slice-read-arrival c =
@@ -123,7 +101,6 @@ slice-read-arrival c =
     ap (λ m. 275 + 4 * m) (c .before .before .before .before .lengths-below .ensures .0 ∙ ap (lengthsBelow ws) q) ∙ sym b in
     omega (arith, k .fits)
 
--- src/queues.rt:98:5
 behead-requires : tie.Need-behead-requires
 unfolding contents
 behead-requires c κs =
@@ -132,7 +109,6 @@ behead-requires c κs =
     let k = head-facts ws (s .args .tag) (s .pre .0) (s .pre .1) (s .pre .2) in
     (k .fitting, s .pre .2, k .waits)
 
--- src/queues.rt:99:5
 write-link-requires : tie.Need-write-link-requires
 unfolding contents
 write-link-requires c κs =
@@ -146,11 +122,9 @@ write-link-requires c κs =
     let u : 1 ≤ word ws (275 + 4 * c .before .before .before .before .before .before .before .before .before .lengths-below .result + 2) = rw a (k .units) in
     (c .before .before .before .behead .ensures .fitting, λ z. absurd (omega arith))
 
--- src/queues.rt:89:1
 same-length : tie.Need-same-length
 same-length c = search needs
 
--- src/queues.rt:89:1
 returns : tie.Need-returns
 unfolding contents packetAt
 returns c =

@@ -1,59 +1,43 @@
+-- `words::queues::load_link` meets its contract.
 use Rattle.words.proofs.Counts.{sound-fitting}
-use Rattle.words.proofs.Loading.{link-free, link-busy, head-facts, loaded-become, busy-become, idle-become}
-use Rattle.words.specs.Places.{word, placeOf, lengthsBelow, startOf}
-use Rattle.words.specs.Contents.{contents, settingsAt, packetAt, linkOf, turnsAt}
-use lib.ListN.{length, getD, take, drop, set}
+use Rattle.words.proofs.Loading.{busy-become, idle-become}
+use Rattle.words.specs.Contents.{contents}
 use native.Mathlib.Omega.{arith}
-use mathlib.Core.Path.{_≡_, refl, sym, ap, _∙_}
-use Prim.Native.Nat.{ℕ, suc, _+_, _*_, _-_, _^_, _/_, _%_, _≤_, _<_}
+use Prim.Native.Nat.{_-_}
 use borrow.Author.Needs.{needs}
 use Rattle.words.proofs.queues.load_link.Statement.{statement}
 use Rattle.words.proofs.queues.load_link.Tie as tie
-use Rattle.words.proofs.queues.load_link.Reads as reads
-use Rattle.words.proofs.queues.load_link.Lts as lts
-use Rattle.words.proofs.queues.load_from.Reads as load-from-reads
-use Rattle.words.proofs.queues.lowest_tag.Reads as lowest-tag-reads
-use Rattle.words.proofs.soundness.largest_factor.Reads as largest-factor-reads
 
--- src/queues.rt:107:8
 slice-read-if1 : tie.Need-slice-read-if1
 slice-read-if1 c = omega (arith, sound-fitting (c .before .before .args .ws .now) (c .before .before .pre) .enough)
 
--- src/queues.rt:108:9
 returns : tie.Need-returns
 returns c = busy-become (c .before .before .before .args .ws .now) (sound-fitting (c .before .before .before .args .ws .now) (c .before .before .before .pre)) (c .if1 .taken)
 
--- src/queues.rt:110:9
 lowest-tag-requires : tie.Need-lowest-tag-requires
 lowest-tag-requires c κs = sound-fitting (c .before .before .before .before .args .ws .now) (c .before .before .before .before .pre)
 
--- src/queues.rt:111:8
 largest-factor-requires : tie.Need-largest-factor-requires
 largest-factor-requires c κs = let k = sound-fitting (c .before .before .before .before .before .before .args .ws .now) (c .before .before .before .before .before .before .pre) in (omega (arith, k .enough), k .classes-least, k .classes)
 
--- src/queues.rt:112:9
 same-length : tie.Need-same-length
 same-length c = search needs
 
--- src/queues.rt:112:9
 returns-2 : tie.Need-returns-2
 returns-2 c =
     let s = c .before .before .before .before .before .before .before .before in
     let ws = s .args .ws .now in
     idle-become ws (sound-fitting ws (s .pre)) (c .before .before .before .before .before .if1 .left) (omega (arith, c .if2 .taken, c .before .largest-factor .ensures .0, c .before .before .before .lowest-tag .ensures .0))
 
--- src/queues.rt:114:5
 load-from-requires : tie.Need-load-from-requires
 unfolding contents
 load-from-requires c κs =
     let s = c .before .before .before .before .before .before .before .before .before in
     (s .pre, c .before .before .before .before .lowest-tag .ensures .0, omega (arith, c .before .if2 .left, c .before .before .largest-factor .ensures .0), c .before .before .before .before .before .before .if1 .left)
 
--- src/queues.rt:103:1
 same-length-2 : tie.Need-same-length-2
 same-length-2 c = search needs
 
--- src/queues.rt:103:1
 returns-3 : tie.Need-returns-3
 returns-3 c = search needs
 

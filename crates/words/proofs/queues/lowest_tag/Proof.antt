@@ -1,3 +1,4 @@
+-- `words::queues::lowest_tag` meets its contract.
 use Rattle.meaning.specs.Box.{Packet}
 use mathlib.Core.List.{List}
 use Rattle.meaning.specs.Numbers.{largestFactor}
@@ -5,20 +6,14 @@ use Rattle.words.specs.Changes.{lowestTag}
 use Rattle.words.proofs.Same.{queue-tagged-at}
 use Rattle.words.proofs.QueueLaws.{lowest-next, lowest-stop, lowest-end}
 use Rattle.laws.specs.Series.{series}
-use lib.ListN.{length, getD, take, drop, set}
-use Rattle.words.specs.Places.{word, placeOf}
+use lib.ListN.{length}
+use Rattle.words.specs.Places.{placeOf}
 use Rattle.words.specs.Contents.{contents, settingsAt, turnsAt, queueAt, queuesAt}
-use borrow.Author.Tests.{leb-true, leb-false, le-leb, lt-leb, lt-ltb, le-ltb, eq-eqb, ne-eqb, not-true, not-false}
-use borrow.Author.Needs.{needs}
 use native.Mathlib.Omega.{arith}
-use mathlib.Core.Path.{_≡_, refl, sym, ap, _∙_}
-use Prim.Native.Nat.{ℕ, suc, _+_, _*_, _-_, _^_, _/_, _%_, _≤_, _<_}
+use mathlib.Core.Path.{_≡_, sym, ap, _∙_}
+use Prim.Native.Nat.{ℕ, suc, _+_, _-_, _≤_}
 use Rattle.words.proofs.queues.lowest_tag.Statement.{statement}
 use Rattle.words.proofs.queues.lowest_tag.Tie as tie
-use Rattle.words.proofs.queues.lowest_tag.Reads as reads
-use Rattle.words.proofs.queues.lowest_tag.Lts as lts
-use Rattle.words.proofs.queues.waiting_at.Reads as waiting-at-reads
-use Rattle.words.proofs.soundness.largest_factor.Reads as largest-factor-reads
 
 abbrev Inv-loop : tie.InvT-loop
 Inv-loop ws count tag₀ tag = (tag ≤ count) × (count ≡ suc (largestFactor (settingsAt ws))) × (tag + lowestTag (series (λ k. queueAt ws (placeOf (turnsAt ws) k)) 1 tag (count - tag)) ≡ lowestTag (queuesAt ws))
@@ -26,15 +21,12 @@ Inv-loop ws count tag₀ tag = (tag ≤ count) × (count ≡ suc (largestFactor 
 abbrev μ-loop : tie.MeasureT-loop
 μ-loop ws count tag₀ tag = count - tag
 
--- src/queues.rt:39:17
 largest-factor-requires : tie.Need-largest-factor-requires Inv-loop μ-loop
 largest-factor-requires c κs = (omega (arith, c .before .pre .enough), c .before .pre .classes-least, c .before .pre .classes)
 
--- src/queues.rt:39:17
 add-count : tie.Need-add-count Inv-loop μ-loop
 add-count c = omega (arith, c .largest-factor .ensures .1)
 
--- src/queues.rt:41:5
 loop-holds : tie.Need-loop-holds Inv-loop μ-loop
 unfolding queuesAt
 loop-holds c =
@@ -44,12 +36,10 @@ loop-holds c =
     let m = ap (λ n. lowestTag (series (λ k. queueAt ws (placeOf (turnsAt ws) k)) 1 0 n)) n in
     (omega arith, omega arith, omega (arith, m))
 
--- src/queues.rt:42:12
 waiting-at-requires : tie.Need-waiting-at-requires Inv-loop μ-loop
 unfolding contents
 waiting-at-requires c κs = (c .before .before .before .before .pre, omega (arith, c .before .loop .inv .1))
 
--- src/queues.rt:43:13
 returns : tie.Need-returns Inv-loop μ-loop
 unfolding contents
 returns c =
@@ -61,15 +51,12 @@ returns c =
     let z = lowest-stop f (s .tag) n (s .tag) (c .before .before .loop-test .taken) (λ q. c .if1 .taken (w ∙ q)) in
     (omega (arith, z, s .inv .2), omega (arith, s .inv .1))
 
--- src/queues.rt:45:9
 add-tag : tie.Need-add-tag Inv-loop μ-loop
 add-tag c = omega (arith, c .before .before .before .before .largest-factor .ensures .1)
 
--- src/queues.rt:41:5
 loop-less : tie.Need-loop-less Inv-loop μ-loop
 loop-less c = omega arith
 
--- src/queues.rt:41:5
 loop-again : tie.Need-loop-again Inv-loop μ-loop
 unfolding contents
 loop-again c =
@@ -81,7 +68,6 @@ loop-again c =
     let z = lowest-next f (s .tag) n (s .tag) (c .before .before .loop-test .taken) (sym w ∙ c .if1 .left) in
     (omega arith, s .inv .1, omega (arith, z, s .inv .2))
 
--- src/queues.rt:35:1
 returns-2 : tie.Need-returns-2 Inv-loop μ-loop
 unfolding contents
 returns-2 c =

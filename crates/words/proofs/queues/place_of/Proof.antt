@@ -1,25 +1,20 @@
-use Rattle.words.specs.Contents.{contents, settingsAt, turnsAt, queueAt, queuesAt}
+-- `words::queues::place_of` meets its contract.
+use Rattle.words.specs.Contents.{turnsAt}
 use Rattle.words.proofs.Rotation.{place-below}
 use Rattle.words.specs.Places.{placeOf}
 use native.Mathlib.Omega.{arith}
-use mathlib.Core.Path.{_≡_, refl, sym, ap, _∙_}
-use Prim.Native.Nat.{ℕ, suc, _+_, _*_, _-_, _^_, _/_, _%_, _≤_, _<_}
+use mathlib.Core.Path.{ap}
+use Prim.Native.Nat.{_+_, _-_, _%_}
 use borrow.Author.Needs.{needs}
 use Rattle.words.proofs.queues.place_of.Statement.{statement}
 use Rattle.words.proofs.queues.place_of.Tie as tie
-use Rattle.words.proofs.queues.place_of.Reads as reads
-use Rattle.words.proofs.queues.place_of.Lts as lts
-use Rattle.words.proofs.soundness.turns.Reads as turns-reads
 
--- src/queues.rt:23:6
 turns-requires : tie.Need-turns-requires
 turns-requires c κs = search needs
 
--- src/queues.rt:23:6
 add-result : tie.Need-add-result
 add-result c = search needs
 
--- src/queues.rt:19:1
 returns : tie.Need-returns
 unfolding placeOf
 returns c =

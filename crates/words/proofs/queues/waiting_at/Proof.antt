@@ -1,39 +1,30 @@
+-- `words::queues::waiting_at` meets its contract.
 use Rattle.words.proofs.Same.{waiting-length}
-use Rattle.words.specs.Places.{word, placeOf}
-use Rattle.words.specs.Contents.{contents, settingsAt, turnsAt, queueAt, queuesAt}
+use Rattle.words.specs.Places.{word}
+use Rattle.words.specs.Contents.{contents}
 use native.Mathlib.Omega.{arith}
-use mathlib.Core.Path.{_≡_, refl, sym, ap, _∙_}
-use Prim.Native.Nat.{ℕ, suc, _+_, _*_, _-_, _^_, _/_, _%_, _≤_, _<_}
+use mathlib.Core.Path.{sym, ap, _∙_}
+use Prim.Native.Nat.{_+_, _-_}
 use borrow.Author.Needs.{needs}
 use Rattle.words.proofs.queues.waiting_at.Statement.{statement}
 use Rattle.words.proofs.queues.waiting_at.Tie as tie
-use Rattle.words.proofs.queues.waiting_at.Reads as reads
-use Rattle.words.proofs.queues.waiting_at.Lts as lts
-use Rattle.words.proofs.numbers.wide.Reads as wide-reads
-use Rattle.words.proofs.queues.place_of.Reads as place-of-reads
 
--- src/queues.rt:31:19
 place-of-requires : tie.Need-place-of-requires
 unfolding contents
 place-of-requires c κs = (c .before .pre .0, omega (arith, c .before .pre .0 .largest, c .before .pre .1))
 
--- src/queues.rt:31:13
 add-wide : tie.Need-add-wide
 add-wide c = search needs
 
--- src/queues.rt:31:10
 mul-wide : tie.Need-mul-wide
 mul-wide c = search needs
 
--- src/queues.rt:31:10
 shared-slice-read-wide : tie.Need-shared-slice-read-wide
 shared-slice-read-wide c = search needs
 
--- src/queues.rt:31:5
 wide-requires : tie.Need-wide-requires
 wide-requires c κs = search needs
 
--- src/queues.rt:27:1
 returns : tie.Need-returns
 unfolding contents
 returns c =

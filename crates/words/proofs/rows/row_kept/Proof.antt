@@ -1,37 +1,28 @@
-use lib.Dec.{leb, ltb, eqb}
-use Rattle.words.specs.Places.{word, lengthsBelow}
-use Rattle.laws.specs.Tests.{within, every, within-facts, within-test}
-use Rattle.words.proofs.TableReads.{row-parts, packet-parts, settings-parts, connection-longest, kept-connection, rank-at, largest-at, lengths-most, tables-tested}
-use mathlib.Core.Bool.{Bool, true, false, _&&_, and-false, or-false}
-use borrow.Author.Tests.{leb-true, leb-false, le-leb, lt-leb, lt-ltb, le-ltb, eq-eqb, ne-eqb, not-true, not-false}
-use native.Mathlib.Omega.{arith}
-use mathlib.Core.Path.{_≡_, refl, sym, ap, _∙_}
-use Prim.Native.Nat.{ℕ, suc, _+_, _*_, _-_, _^_, _/_, _%_, _≤_, _<_}
+-- `words::rows::row_kept` meets its contract.
+use lib.Dec.{eqb}
+use Rattle.words.specs.Places.{word}
+use Rattle.laws.specs.Tests.{within, within-facts}
+use Rattle.words.proofs.TableReads.{row-parts}
+use mathlib.Core.Bool.{true, false, and-false}
+use borrow.Author.Tests.{eq-eqb, ne-eqb, not-true, not-false}
+use mathlib.Core.Path.{_≡_, sym, _∙_}
+use Prim.Native.Nat.{_+_, _-_, _%_}
 use borrow.Author.Needs.{needs}
 use Rattle.words.proofs.rows.row_kept.Statement.{statement}
 use Rattle.words.proofs.rows.row_kept.Tie as tie
-use Rattle.words.proofs.rows.row_kept.Reads as reads
-use Rattle.words.proofs.rows.row_kept.Lts as lts
-use Rattle.words.proofs.numbers.is_within.Reads as is-within-reads
-use Rattle.words.proofs.rows.allowance_kept.Reads as allowance-kept-reads
 
--- src/rows.rt:37:22
 mul-is-within : tie.Need-mul-is-within
 mul-is-within c = search needs
 
--- src/rows.rt:37:22
 shared-slice-read-is-within : tie.Need-shared-slice-read-is-within
 shared-slice-read-is-within c = search needs
 
--- src/rows.rt:37:30
 shared-slice-read-is-within-2 : tie.Need-shared-slice-read-is-within-2
 shared-slice-read-is-within-2 c = search needs
 
--- src/rows.rt:37:9
 is-within-requires : tie.Need-is-within-requires
 is-within-requires c κs = search needs
 
--- src/rows.rt:38:9
 returns : tie.Need-returns
 returns c =
     let ws = c .before .before .before .before .before .args .ws .now in
@@ -39,23 +30,18 @@ returns c =
     let e : within 1 (word ws at) (word ws 2) ≡ false = sym (c .before .is-within .ensures) ∙ not-true _ (c .if1 .taken) in
     sym (row-parts ws at ∙ simp (e, and-false))
 
--- src/rows.rt:40:25
 add-is-within : tie.Need-add-is-within
 add-is-within c = search needs
 
--- src/rows.rt:40:22
 mul-is-within-2 : tie.Need-mul-is-within-2
 mul-is-within-2 c = search needs
 
--- src/rows.rt:40:22
 shared-slice-read-is-within-3 : tie.Need-shared-slice-read-is-within-3
 shared-slice-read-is-within-3 c = search needs
 
--- src/rows.rt:40:9
 is-within-requires-2 : tie.Need-is-within-requires-2
 is-within-requires-2 c κs = search needs
 
--- src/rows.rt:41:9
 returns-2 : tie.Need-returns-2
 returns-2 c =
     let ws = c .before .before .before .before .before .before .before .before .args .ws .now in
@@ -63,23 +49,18 @@ returns-2 c =
     let e : within 1 (word ws (at + 1)) 64 ≡ false = sym (c .before .is-within2 .ensures) ∙ not-true _ (c .if2 .taken) in
     sym (row-parts ws at ∙ simp (e, and-false))
 
--- src/rows.rt:43:20
 add-burst : tie.Need-add-burst
 add-burst c = search needs
 
--- src/rows.rt:43:17
 mul-burst : tie.Need-mul-burst
 mul-burst c = search needs
 
--- src/rows.rt:43:17
 shared-slice-read-burst : tie.Need-shared-slice-read-burst
 shared-slice-read-burst c = search needs
 
--- src/rows.rt:44:9
 is-within-requires-3 : tie.Need-is-within-requires-3
 is-within-requires-3 c κs = search needs
 
--- src/rows.rt:45:9
 returns-3 : tie.Need-returns-3
 returns-3 c =
     let ws = c .before .before .before .before .before .before .before .before .before .before .before .args .ws .now in
@@ -87,27 +68,21 @@ returns-3 c =
     let e : within 1 (word ws (at + 2)) 64 ≡ false = sym (c .before .is-within3 .ensures) ∙ not-true _ (c .if3 .taken) in
     sym (row-parts ws at ∙ simp (e, and-false))
 
--- src/rows.rt:47:17
 shared-slice-read-cycle : tie.Need-shared-slice-read-cycle
 shared-slice-read-cycle c = search needs
 
--- src/rows.rt:48:21
 add-period : tie.Need-add-period
 add-period c = search needs
 
--- src/rows.rt:48:18
 mul-period : tie.Need-mul-period
 mul-period c = search needs
 
--- src/rows.rt:48:18
 shared-slice-read-period : tie.Need-shared-slice-read-period
 shared-slice-read-period c = search needs
 
--- src/rows.rt:49:9
 is-within-requires-4 : tie.Need-is-within-requires-4
 is-within-requires-4 c κs = search needs
 
--- src/rows.rt:50:9
 returns-4 : tie.Need-returns-4
 returns-4 c =
     let ws = c .before .before .before .before .before .before .before .before .before .before .before .before .before .before .before .args .ws .now in
@@ -115,11 +90,9 @@ returns-4 c =
     let e : within 1 (word ws (at + 3)) (word ws 1) ≡ false = sym (c .before .is-within4 .ensures) ∙ not-true _ (c .if4 .taken) in
     sym (row-parts ws at ∙ simp (e, and-false))
 
--- src/rows.rt:52:8
 rem-if5 : tie.Need-rem-if5
 rem-if5 c = within-facts 1 _ _ (sym (c .before .is-within4 .ensures) ∙ not-false _ (c .if4 .left)) .0
 
--- src/rows.rt:53:9
 returns-5 : tie.Need-returns-5
 returns-5 c =
     let ws = c .before .before .before .before .before .before .before .before .before .before .before .before .before .before .before .before .args .ws .now in
@@ -127,39 +100,30 @@ returns-5 c =
     let e : eqb (word ws 1 % word ws (at + 3)) 0 ≡ false = ne-eqb _ 0 (c .if5 .taken) in
     sym (row-parts ws at ∙ simp (e, and-false))
 
--- src/rows.rt:55:35
 shared-slice-read-allowance-kept : tie.Need-shared-slice-read-allowance-kept
 shared-slice-read-allowance-kept c = search needs
 
--- src/rows.rt:55:47
 add-allowance-kept : tie.Need-add-allowance-kept
 add-allowance-kept c = search needs
 
--- src/rows.rt:55:44
 mul-allowance-kept : tie.Need-mul-allowance-kept
 mul-allowance-kept c = search needs
 
--- src/rows.rt:55:44
 shared-slice-read-allowance-kept-2 : tie.Need-shared-slice-read-allowance-kept-2
 shared-slice-read-allowance-kept-2 c = search needs
 
--- src/rows.rt:55:59
 add-allowance-kept-2 : tie.Need-add-allowance-kept-2
 add-allowance-kept-2 c = search needs
 
--- src/rows.rt:55:56
 mul-allowance-kept-2 : tie.Need-mul-allowance-kept-2
 mul-allowance-kept-2 c = search needs
 
--- src/rows.rt:55:56
 shared-slice-read-allowance-kept-3 : tie.Need-shared-slice-read-allowance-kept-3
 shared-slice-read-allowance-kept-3 c = search needs
 
--- src/rows.rt:55:5
 allowance-kept-requires : tie.Need-allowance-kept-requires
 allowance-kept-requires c κs = search needs
 
--- src/rows.rt:33:1
 returns-6 : tie.Need-returns-6
 returns-6 c =
     let ws = c .before .before .before .before .before .before .before .before .before .before .before .before .before .before .before .before .before .before .before .before .args .ws .now in

@@ -1,18 +1,15 @@
+-- `words::settings::factors_rise` meets its contract.
 use lib.ListN.{drop-of-length-le}
-use mathlib.Core.List.{List, _∷_, []}
 use native.Mathlib.Numerals.{add-one}
 use Rattle.meaning.specs.Numbers.{risingAbove}
 use lib.Seq.{drop-cons}
 use lib.ListN.{length, getD, drop}
-use borrow.Author.Tests.{leb-true, le-leb, lt-leb, lt-ltb, le-ltb, eq-eqb, ne-eqb}
-use borrow.Author.Needs.{needs}
+use borrow.Author.Tests.{lt-ltb, le-ltb}
 use native.Mathlib.Omega.{arith}
 use mathlib.Core.Path.{_≡_, refl, sym, ap, _∙_}
-use Prim.Native.Nat.{ℕ, suc, _+_, _*_, _-_, _^_, _/_, _%_, _≤_, _<_}
+use Prim.Native.Nat.{_+_, _-_, _≤_}
 use Rattle.words.proofs.settings.factors_rise.Statement.{statement}
 use Rattle.words.proofs.settings.factors_rise.Tie as tie
-use Rattle.words.proofs.settings.factors_rise.Reads as reads
-use Rattle.words.proofs.settings.factors_rise.Lts as lts
 
 abbrev Inv-loop : tie.InvT-loop
 Inv-loop factors low₀ i₀ low i = (i ≤ length factors) × (risingAbove low (drop i factors) ≡ risingAbove 0 factors)
@@ -20,19 +17,15 @@ Inv-loop factors low₀ i₀ low i = (i ≤ length factors) × (risingAbove low 
 abbrev μ-loop : tie.MeasureT-loop
 μ-loop factors low₀ i₀ low i = length factors - i
 
--- src/settings.rt:16:5
 loop-holds : tie.Need-loop-holds Inv-loop μ-loop
 loop-holds c = (omega arith, refl)
 
--- src/settings.rt:17:12
 mul-if1 : tie.Need-mul-if1 Inv-loop μ-loop
 mul-if1 c = omega arith
 
--- src/settings.rt:17:12
 shared-slice-read-if1 : tie.Need-shared-slice-read-if1 Inv-loop μ-loop
 shared-slice-read-if1 c = omega arith
 
--- src/settings.rt:18:13
 returns : tie.Need-returns Inv-loop μ-loop
 unfolding risingAbove
 returns c =
@@ -40,23 +33,18 @@ returns c =
     let fs = s .before .args .factors .now in
     sym (sym (s .loop .inv .1) ∙ rw (drop-cons fs (s .loop .i) 0 (c .before .before .loop-test .taken), le-ltb _ _ (c .if1 .taken)))
 
--- src/settings.rt:20:15
 mul-low : tie.Need-mul-low Inv-loop μ-loop
 mul-low c = omega arith
 
--- src/settings.rt:20:15
 shared-slice-read-low : tie.Need-shared-slice-read-low Inv-loop μ-loop
 shared-slice-read-low c = omega arith
 
--- src/settings.rt:21:9
 add-i : tie.Need-add-i Inv-loop μ-loop
 add-i c = omega arith
 
--- src/settings.rt:16:5
 loop-less : tie.Need-loop-less Inv-loop μ-loop
 loop-less c = omega arith
 
--- src/settings.rt:16:5
 loop-again : tie.Need-loop-again Inv-loop μ-loop
 unfolding risingAbove
 loop-again c =
@@ -67,7 +55,6 @@ loop-again c =
     rw (add-one i, drop-cons fs i 0 (c .before .before .before .loop-test .taken), lt-ltb _ _ (c .before .if1 .left)) in
     (omega arith, sym e ∙ s .loop .inv .1)
 
--- src/settings.rt:11:1
 returns-2 : tie.Need-returns-2 Inv-loop μ-loop
 unfolding risingAbove
 returns-2 c =

@@ -1,36 +1,27 @@
-use Rattle.laws.specs.Deciding.{leb-same, bool-same, everyBelow-stop}
-use lib.Dec.{leb, ltb, eqb}
-use Rattle.words.proofs.TableReads.{row-parts, packet-parts, settings-parts, connection-longest, kept-connection, rank-at, largest-at, lengths-most, tables-tested}
-use Rattle.words.specs.Tested.{settingsTested, rowKept, rowsTested, linkTested, countsTested, packetFits, packetsFit, queueFits, queuesTested}
-use Rattle.words.specs.Contents.{contents, packetAt, settingsAt, standingAt, standings, turnsAt}
+-- `words::soundness::counts_tested` meets its contract.
+use Rattle.laws.specs.Deciding.{leb-same}
+use lib.Dec.{leb}
+use Rattle.words.specs.Tested.{countsTested}
 use Rattle.words.specs.Places.{word, lengthsBelow}
-use mathlib.Core.Bool.{Bool, true, false, _&&_, and-false, or-false}
-use borrow.Author.Tests.{leb-true, leb-false, le-leb, lt-leb, lt-ltb, le-ltb, eq-eqb, ne-eqb, not-true, not-false}
+use mathlib.Core.Bool.{true, false, and-false}
+use borrow.Author.Tests.{le-leb, lt-leb, eq-eqb, ne-eqb}
 use native.Mathlib.Omega.{arith}
-use mathlib.Core.Path.{_≡_, refl, sym, ap, _∙_}
-use Prim.Native.Nat.{ℕ, suc, _+_, _*_, _-_, _^_, _/_, _%_, _≤_, _<_}
+use mathlib.Core.Path.{_≡_, sym, _∙_}
+use Prim.Native.Nat.{_+_, _-_}
 use borrow.Author.Needs.{needs}
 use Rattle.words.proofs.soundness.counts_tested.Statement.{statement}
 use Rattle.words.proofs.soundness.counts_tested.Tie as tie
-use Rattle.words.proofs.soundness.counts_tested.Reads as reads
-use Rattle.words.proofs.soundness.counts_tested.Lts as lts
-use Rattle.words.proofs.numbers.lengths_below.Reads as lengths-below-reads
-use Rattle.words.proofs.numbers.wide.Reads as wide-reads
 
--- src/soundness.rt:21:21
 shared-slice-read-if1 : tie.Need-shared-slice-read-if1
 shared-slice-read-if1 c = search needs
 
--- src/soundness.rt:22:9
 returns : tie.Need-returns
 unfolding countsTested
 returns c = simp (lt-leb _ _ (c .if1 .taken))
 
--- src/soundness.rt:24:9
 lengths-below-requires : tie.Need-lengths-below-requires
 lengths-below-requires c κs = search needs
 
--- src/soundness.rt:26:9
 returns-2 : tie.Need-returns-2
 unfolding countsTested
 returns-2 c =
@@ -38,31 +29,24 @@ returns-2 c =
     let e : leb (lengthsBelow ws 64) 1024 ≡ false = lt-leb (lengthsBelow ws 64) 1024 (omega (arith, c .before .lengths-below .ensures .0)) in
     simp (e, and-false)
 
--- src/soundness.rt:28:34
 shared-slice-read-wide : tie.Need-shared-slice-read-wide
 shared-slice-read-wide c = search needs
 
--- src/soundness.rt:28:29
 wide-requires : tie.Need-wide-requires
 wide-requires c κs = search needs
 
--- src/soundness.rt:28:29
 add-slots-and-waiting : tie.Need-add-slots-and-waiting
 add-slots-and-waiting c = search needs
 
--- src/soundness.rt:29:8
 shared-slice-read-if3 : tie.Need-shared-slice-read-if3
 shared-slice-read-if3 c = search needs
 
--- src/soundness.rt:30:21
 shared-slice-read-wide-2 : tie.Need-shared-slice-read-wide-2
 shared-slice-read-wide-2 c = search needs
 
--- src/soundness.rt:30:16
 wide-requires-2 : tie.Need-wide-requires-2
 wide-requires-2 c κs = search needs
 
--- src/soundness.rt:30:9
 returns-3 : tie.Need-returns-3
 unfolding countsTested
 returns-3 c =
@@ -73,19 +57,15 @@ returns-3 c =
     leb-same (c .wide2 .result) (c .before .before .before .before .wide .result + c .before .before .before .before .before .before .before .lengths-below .result) (word ws 205) (word ws 204 + (lengthsBelow ws 64 + 0)) (λ h. omega arith) (λ h. omega arith) ∙
     sym (simp (a, b, eq-eqb _ _ (c .before .before .if3 .taken)))
 
--- src/soundness.rt:32:10
 shared-slice-read-wide-3 : tie.Need-shared-slice-read-wide-3
 shared-slice-read-wide-3 c = search needs
 
--- src/soundness.rt:32:5
 wide-requires-3 : tie.Need-wide-requires-3
 wide-requires-3 c κs = search needs
 
--- src/soundness.rt:32:22
 add-result : tie.Need-add-result
 add-result c = search needs
 
--- src/soundness.rt:17:1
 returns-4 : tie.Need-returns-4
 unfolding countsTested
 returns-4 c =

@@ -1,38 +1,28 @@
+-- `words::soundness::is_sound` meets its contract.
 use Rattle.words.specs.Places.{word, lengthsBelow}
 use mathlib.Core.Bool.{and-eq-true-iff}
 use lib.Dec.{leb}
 use Rattle.words.proofs.TableReads.{tables-tested}
-use Rattle.words.specs.Tested.{settingsTested, rowsTested, countsTested, linkTested, queuesTested, tested}
+use Rattle.words.specs.Tested.{settingsTested, rowsTested, countsTested, linkTested, tested}
 use Rattle.words.proofs.TestedSound.{tested-sound}
-use lib.ListN.{length, getD, take, drop, set}
-use mathlib.Core.Bool.{Bool, true, false, _&&_, and-false, or-false}
-use borrow.Author.Tests.{leb-true, leb-false, le-leb, lt-leb, lt-ltb, le-ltb, eq-eqb, ne-eqb, not-true, not-false}
-use native.Mathlib.Omega.{arith}
-use mathlib.Core.Path.{_≡_, refl, sym, ap, _∙_}
-use Prim.Native.Nat.{ℕ, suc, _+_, _*_, _-_, _^_, _/_, _%_, _≤_, _<_}
+use lib.ListN.{length}
+use mathlib.Core.Bool.{true, false, _&&_, and-false}
+use borrow.Author.Tests.{leb-true, le-leb, lt-leb, not-true, not-false}
+use mathlib.Core.Path.{_≡_, sym, _∙_}
+use Prim.Native.Nat.{_-_}
 use borrow.Author.Needs.{needs}
 use Rattle.words.proofs.soundness.is_sound.Statement.{statement}
 use Rattle.words.proofs.soundness.is_sound.Tie as tie
-use Rattle.words.proofs.soundness.is_sound.Reads as reads
-use Rattle.words.proofs.soundness.is_sound.Lts as lts
-use Rattle.words.proofs.packets.link_tested.Reads as link-tested-reads
-use Rattle.words.proofs.rows.rows_tested.Reads as rows-tested-reads
-use Rattle.words.proofs.settings.settings_tested.Reads as settings-tested-reads
-use Rattle.words.proofs.soundness.counts_tested.Reads as counts-tested-reads
-use Rattle.words.proofs.soundness.queues_tested.Reads as queues-tested-reads
 
--- src/soundness.rt:88:9
 returns : tie.Need-returns
 unfolding tested
 returns c =
     let ws = c .before .before .args .ws .now in
     sym (sym (tested-sound ws) ∙ simp (lt-leb _ _ (c .if1 .taken)))
 
--- src/soundness.rt:90:9
 settings-tested-requires : tie.Need-settings-tested-requires
 settings-tested-requires c κs = search needs
 
--- src/soundness.rt:91:9
 returns-2 : tie.Need-returns-2
 unfolding tested
 returns-2 c =
@@ -40,11 +30,9 @@ returns-2 c =
     let e : settingsTested ws ≡ false = sym (c .before .settings-tested .ensures) ∙ not-true _ (c .if2 .taken) in
     sym (sym (tested-sound ws) ∙ simp (e, and-false))
 
--- src/soundness.rt:93:9
 rows-tested-requires : tie.Need-rows-tested-requires
 rows-tested-requires c κs = search needs
 
--- src/soundness.rt:94:9
 returns-3 : tie.Need-returns-3
 unfolding tested
 returns-3 c =
@@ -52,11 +40,9 @@ returns-3 c =
     let e : rowsTested ws ≡ false = sym (c .before .rows-tested .ensures) ∙ not-true _ (c .if3 .taken) in
     sym (sym (tested-sound ws) ∙ simp (e, and-false))
 
--- src/soundness.rt:96:9
 counts-tested-requires : tie.Need-counts-tested-requires
 counts-tested-requires c κs = search needs
 
--- src/soundness.rt:97:9
 returns-4 : tie.Need-returns-4
 unfolding tested
 returns-4 c =
@@ -64,13 +50,11 @@ returns-4 c =
     let e : countsTested ws ≡ false = sym (c .before .counts-tested .ensures) ∙ not-true _ (c .if4 .taken) in
     sym (sym (tested-sound ws) ∙ simp (e, and-false))
 
--- src/soundness.rt:99:9
 link-tested-requires : tie.Need-link-tested-requires
 link-tested-requires c κs =
     let ws = c .before .before .before .before .before .before .before .before .args .ws .now in
     tables-tested ws (c .before .before .before .before .before .before .if1 .left) (sym (c .before .before .before .before .before .settings-tested .ensures) ∙ not-false _ (c .before .before .before .before .if2 .left)) (sym (c .before .before .before .rows-tested .ensures) ∙ not-false _ (c .before .before .if3 .left))
 
--- src/soundness.rt:100:9
 returns-5 : tie.Need-returns-5
 unfolding tested
 returns-5 c =
@@ -78,7 +62,6 @@ returns-5 c =
     let e : linkTested ws ≡ false = sym (c .before .link-tested .ensures) ∙ not-true _ (c .if5 .taken) in
     sym (sym (tested-sound ws) ∙ simp (e, and-false))
 
--- src/soundness.rt:102:5
 queues-tested-requires : tie.Need-queues-tested-requires
 unfolding countsTested
 queues-tested-requires c κs =
@@ -89,7 +72,6 @@ queues-tested-requires c κs =
       leb-true (lengthsBelow ws 64) 1024 (and-eq-true-iff (leb (word ws 204) 4000000000) (leb (lengthsBelow ws 64) 1024) .0 (a .0) .1),
     )
 
--- src/soundness.rt:84:1
 returns-6 : tie.Need-returns-6
 unfolding tested
 returns-6 c =

@@ -1,66 +1,49 @@
+-- `words::soundness::queue_fits` meets its contract.
 use Rattle.words.proofs.ContentsPut.{length-queue}
 use Rattle.meaning.specs.Numbers.{largestFactor}
 use Rattle.words.specs.Places.{startOf, tagOf}
-use Rattle.laws.specs.Series.{series, series-next, series-done, series-take, every-stop, every-next, every-end}
-use Rattle.words.specs.Places.{word, lengthsBelow}
-use lib.Dec.{leb, ltb, eqb}
-use Rattle.words.specs.Tested.{settingsTested, rowKept, rowsTested, linkTested, countsTested, packetFits, packetsFit, queueFits, queuesTested}
+use Rattle.laws.specs.Series.{series}
+use lib.Dec.{eqb}
+use Rattle.words.specs.Tested.{packetsFit, queueFits}
 use Rattle.words.specs.Contents.{contents, packetAt, settingsAt, turnsAt, queueAt}
-use borrow.Author.Tests.{leb-true, leb-false, le-leb, lt-leb, lt-ltb, le-ltb, eq-eqb, ne-eqb, not-true, not-false}
+use borrow.Author.Tests.{le-leb, lt-leb}
 use native.Mathlib.Omega.{arith}
-use mathlib.Core.Path.{_≡_, refl, sym, ap, _∙_}
-use Prim.Native.Nat.{ℕ, suc, _+_, _*_, _-_, _^_, _/_, _%_, _≤_, _<_}
+use mathlib.Core.Path.{_≡_, sym, ap, _∙_}
+use Prim.Native.Nat.{_+_, _-_, _%_}
 use borrow.Author.Needs.{needs}
 use Rattle.words.proofs.soundness.queue_fits.Statement.{statement}
 use Rattle.words.proofs.soundness.queue_fits.Tie as tie
-use Rattle.words.proofs.soundness.queue_fits.Reads as reads
-use Rattle.words.proofs.soundness.queue_fits.Lts as lts
-use Rattle.words.proofs.numbers.wide.Reads as wide-reads
-use Rattle.words.proofs.packets.packets_fit.Reads as packets-fit-reads
-use Rattle.words.proofs.soundness.largest_factor.Reads as largest-factor-reads
-use Rattle.words.proofs.soundness.turns.Reads as turns-reads
 
--- src/soundness.rt:56:9
 turns-requires : tie.Need-turns-requires
 turns-requires c κs = search needs
 
--- src/soundness.rt:57:25
 sub-tag : tie.Need-sub-tag
 sub-tag c = search needs
 
--- src/soundness.rt:57:16
 add-tag : tie.Need-add-tag
 add-tag c = search needs
 
--- src/soundness.rt:58:25
 add-wide : tie.Need-add-wide
 add-wide c = search needs
 
--- src/soundness.rt:58:22
 mul-wide : tie.Need-mul-wide
 mul-wide c = search needs
 
--- src/soundness.rt:58:22
 shared-slice-read-wide : tie.Need-shared-slice-read-wide
 shared-slice-read-wide c = search needs
 
--- src/soundness.rt:58:9
 wide-requires : tie.Need-wide-requires
 wide-requires c κs = search needs
 
--- src/soundness.rt:59:15
 largest-factor-requires : tie.Need-largest-factor-requires
 largest-factor-requires c κs = search needs
 
--- src/soundness.rt:60:36
 add-packets-fit : tie.Need-add-packets-fit
 add-packets-fit c = search needs
 
--- src/soundness.rt:60:9
 packets-fit-requires : tie.Need-packets-fit-requires
 packets-fit-requires c κs = search needs
 
--- src/soundness.rt:52:1
 returns : tie.Need-returns
 unfolding queueFits queueAt tagOf
 returns c =
@@ -77,7 +60,6 @@ returns c =
     ap (λ m. packetsFit (contents ws) (turnsAt ws + tagOf (turnsAt ws) place) 0 (series (packetAt ws) 4 (startOf ws place) m)) n ∙
     sym (simp h)
 
--- src/soundness.rt:52:1
 returns-2 : tie.Need-returns-2
 unfolding queueFits tagOf
 returns-2 c =

@@ -1,0 +1,48 @@
+-- What a caller reads of the contents, as the words that the inner functions ask about; and sound contents that words become are sound words.
+use Prim.Native.Nat.{ℕ}
+use mathlib.Core.Path.{_≡_, refl, sym, ap, _∙_}
+use mathlib.Core.Bool.{true}
+use mathlib.Core.List.{List}
+use native.Mathlib.Omega.{arith}
+use lib.ListN.{length}
+use Rattle.meaning.specs.Numbers.{classCount}
+use Rattle.meaning.specs.Box.{Box, waiting, sound}
+use Rattle.words.specs.Places.{word, lengthsBelow}
+use Rattle.words.specs.Contents.{contents, settingsAt}
+use Rattle.words.specs.Sound.{Fitting, soundWords}
+use Rattle.words.specs.Changes.{Become}
+use Rattle.words.proofs.PutContents.{class-count, row-count}
+use Rattle.words.proofs.Counts.{waiting-count, sound-put}
+use Rattle.words.proofs.Same.{become-put}
+
+pub interval-word : (ws : List ℕ) → contents ws .settings .interval ≡ word ws 0
+unfolding contents settingsAt
+interval-word ws = refl
+
+pub cycle-word : (ws : List ℕ) → contents ws .settings .cycle ≡ word ws 1
+unfolding contents settingsAt
+cycle-word ws = refl
+
+pub classes-word : (ws : List ℕ) → classCount (contents ws .settings) ≡ word ws 2
+unfolding contents classCount
+classes-word ws = class-count ws
+
+pub standing-word : (ws : List ℕ) → length (contents ws .standing) ≡ word ws 11
+unfolding contents
+standing-word ws = row-count ws
+
+pub counter-word : (ws : List ℕ) → contents ws .counter ≡ word ws 204
+unfolding contents
+counter-word ws = refl
+
+pub accepted-word : (ws : List ℕ) → contents ws .accepted ≡ word ws 205
+unfolding contents
+accepted-word ws = refl
+
+pub waiting-word : (ws : List ℕ) → Fitting ws → length (waiting (contents ws)) ≡ lengthsBelow ws 64
+waiting-word ws k = sym (waiting-count ws (k .untagged) (k .largest))
+
+-- words that become those of a sound box are sound words
+pub become-sound : (ws after : List ℕ) (box : Box) → Become ws after box → sound box ≡ true → soundWords after ≡ true
+become-sound ws after box b e =
+    ap soundWords (become-put ws after box b) ∙ sound-put box ws e (omega (arith, b .fitting .enough, b .same-length))
