@@ -1,6 +1,6 @@
 #!/usr/bin/env python3
-"""make_run_vectors.py: the vectors of whole runs. Writes the plans of tests/run_vectors/data, 01.plan upward, and the expected
-tests/run_vectors/stdout: for each plan in order a line `== NN` and the lines of its run. Writes examples/*.lines too. The lines come from
+"""make_run_vectors.py: the vectors of whole runs. Writes the plans of crates/run_vectors/data, 01.plan upward, and the expected
+crates/run_vectors/stdout: for each plan in order a line `== NN` and the lines of its run. Writes examples/*.lines too. The lines come from
 the independent program in tests/reference, which is built first. Every answer number that a plan can give must be among them.
 
     tests/make_run_vectors.py            write them, and say which plan is which
@@ -172,10 +172,10 @@ def expected():
     program = build_reference()
     files, names, text = {}, [], b""
     for n, (name, plan) in enumerate(plans(), 1):
-        files["tests/run_vectors/data/%02d.plan" % n] = plan
+        files["crates/run_vectors/data/%02d.plan" % n] = plan
         names.append("%02d %s" % (n, name))
         text += b"== %02d\n" % n + lines_of(program, plan)
-    files["tests/run_vectors/stdout"] = text
+    files["crates/run_vectors/stdout"] = text
     assert 45 <= len(names) <= MOST_PLANS and sum(map(len, files.values())) <= MOST_BYTES
     assert answers(text, "REFUSED", 1) == REFUSALS and answers(text, "STOP", 1) == set()
     assert answers(text, "ADMIT", 2) == ADMISSIONS and answers(text, "OFFER", 2) == OFFERS
@@ -187,7 +187,7 @@ def expected():
 def present():
     """The files that stand there now, by their paths from the root."""
     found = {}
-    for pattern in ("tests/run_vectors/data/*", "tests/run_vectors/stdout", "examples/*.lines"):
+    for pattern in ("crates/run_vectors/data/*", "crates/run_vectors/stdout", "examples/*.lines"):
         for path in glob.glob(os.path.join(ROOT, pattern)):
             found[os.path.relpath(path, ROOT)] = plan_text.read(path)
     return found
@@ -202,7 +202,7 @@ def main(words):
             print("differs: %s" % path)
         print("run vectors: %d files, %d differ" % (len(files), len(wrong)))
         return 1 if wrong else 0
-    os.makedirs(os.path.join(ROOT, "tests", "run_vectors", "data"), exist_ok=True)
+    os.makedirs(os.path.join(ROOT, "crates", "run_vectors", "data"), exist_ok=True)
     for path in set(before) - set(files):
         os.remove(os.path.join(ROOT, path))
     for path, data in files.items():
