@@ -235,7 +235,7 @@ def answers_of(program, interval, cycle, factors, connections):
 
 def tables(program):
     """Each table goes on until it has refused four times."""
-    c, rng, seen = Calls("tables"), random.Random(11), {}
+    c, rng, seen, beyond = Calls("tables"), random.Random(11), {}, 0
     for _ in range(TABLES):
         interval, cycle, factors, connections = random_table(rng)
         c.open(interval, cycle, factors)
@@ -244,9 +244,10 @@ def tables(program):
             taken, refused = taken + (answer == 0), refused + (answer != 0)
             c.admit(connection, answer, t if answer else taken)
             seen.setdefault(answer, []).append(t)
+            beyond += answer == 6 and t >= factors[-1] * interval
             if refused == 4:
                 break
-    assert set(seen) == {0, 3, 5, 6} and len(set(seen[6])) >= 40
+    assert set(seen) == {0, 3, 5, 6} and len(set(seen[6])) >= 40 and beyond >= 80  # a search that ends at dP would miss those beyond
     return c, seen
 
 
