@@ -1,0 +1,35 @@
+/* The public calls twice over: the proved ones, and plain C that does the same on the same words. Each gives 0 for success. */
+#include <stddef.h>
+#include <stdint.h>
+#include <stdio.h>
+#include <stdlib.h>
+#include <string.h>
+#include <time.h>
+
+enum { WORDS = 4371 };
+
+uint32_t box_open(uint32_t *ws, size_t n, uint32_t d, uint32_t m, const uint32_t *factors, size_t count);
+uint32_t box_sound(const uint32_t *ws, size_t n);
+uint32_t box_admit(uint32_t *ws, size_t n, uint32_t class, uint32_t longest, uint32_t burst, uint32_t period);
+uint32_t box_offer(uint32_t *ws, size_t n, uint32_t connection, uint32_t units);
+uint32_t box_step(uint32_t *ws, size_t n);
+
+uint32_t plain_sound(const uint32_t *ws, size_t n);
+uint32_t plain_admit(uint32_t *ws, size_t n, uint32_t class, uint32_t longest, uint32_t burst, uint32_t period);
+uint32_t plain_offer(uint32_t *ws, size_t n, uint32_t connection, uint32_t units);
+uint32_t plain_step(uint32_t *ws, size_t n);
+
+static inline double now(void)
+{
+    struct timespec t;
+    clock_gettime(CLOCK_MONOTONIC, &t);
+    return t.tv_sec * 1e9 + t.tv_nsec;
+}
+
+static inline void must(int holds, const char *what)
+{
+    if (!holds) {
+        fprintf(stderr, "%s\n", what);
+        exit(1);
+    }
+}

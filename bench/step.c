@@ -1,0 +1,68 @@
+/* A step and an offer, proved and in plain C, in one run, turn by turn: sixteen calls one after another from an idle box, and from one in
+   which 100 or 1,000 packets wait. Prints the shortest turn of each for one call in nanoseconds, their ratio, and the share of the test of
+   soundness, which is measured by itself on the same words. */
+#include "plain_box.h"
+
+enum { CALLS = 16 };
+
+static uint32_t before[WORDS], ws[WORDS], other[WORDS];
+
+static uint32_t proved_step(uint32_t *on, uint32_t i) { (void)i; return box_step(on, WORDS); }
+static uint32_t plain_steps(uint32_t *on, uint32_t i) { (void)i; return plain_step(on, WORDS); }
+static uint32_t proved_offer(uint32_t *on, uint32_t i) { return box_offer(on, WORDS, 1 + i, 1); }
+static uint32_t plain_offers(uint32_t *on, uint32_t i) { return plain_offer(on, WORDS, 1 + i, 1); }
+static uint32_t proved_sound(uint32_t *on, uint32_t i) { (void)i; return box_sound(on, WORDS); }
+static uint32_t plain_sounds(uint32_t *on, uint32_t i) { (void)i; return plain_sound(on, WORDS); }
+
+static double turn(uint32_t (*call)(uint32_t *, uint32_t), uint32_t *on)
+{
+    memcpy(on, before, sizeof before);
+    uint32_t all = 0;
+    double start = now();
+    for (uint32_t i = 0; i < CALLS; i++) {
+        all |= call(on, i);
+        __asm__ volatile("" ::: "memory"); /* the words may have changed: each call reads them anew */
+    }
+    double taken = (now() - start) / CALLS;
+    must(all == 0, "a call is refused");
+    return taken;
+}
+
+typedef uint32_t numbered(uint32_t *, uint32_t);
+
+/* A turn of the two calls; the shorter one of it and the earlier ones stays, in nanoseconds a call. */
+static void measure(numbered *a, numbered *b, double shortest[2])
+{
+    double proved = turn(a, ws), plain = turn(b, other);
+    must(!memcmp(ws, other, sizeof ws), "the words differ");
+    shortest[0] = proved < shortest[0] ? proved : shortest[0];
+    shortest[1] = plain < shortest[1] ? plain : shortest[1];
+}
+
+static void report(uint32_t waiting)
+{
+    double step[2] = {1e18, 1e18}, offer[2] = {1e18, 1e18}, sound[2] = {1e18, 1e18};
+    for (int i = 0; i < 5000; i++) {
+        measure(proved_step, plain_steps, step);
+        measure(proved_offer, plain_offers, offer);
+        measure(proved_sound, plain_sounds, sound);
+    }
+    printf("  %4u waiting: step proved %.0f ns, plain C %.0f ns, ratio %.2f; ", waiting, step[0], step[1], step[0] / step[1]);
+    printf("offer proved %.0f ns, plain C %.0f ns, ratio %.2f; ", offer[0], offer[1], offer[0] / offer[1]);
+    printf("soundness proved %.0f ns, plain C %.0f ns, ratio %.2f, ", sound[0], sound[1], sound[0] / sound[1]);
+    printf("%.0f%% of the proved step, %.0f%% of the proved offer\n", 100 * sound[0] / step[0], 100 * sound[0] / offer[0]);
+}
+
+int main(void)
+{
+    static const uint32_t factors[1] = {4}, waiting[3] = {0, 100, 1000};
+    for (int k = 0; k < 3; k++) {
+        must(box_open(before, WORDS, 256, 4096, factors, 1) == 0, "no box");
+        for (uint32_t i = 0; i < 16; i++)
+            must(box_admit(before, WORDS, 1, 1, 64, 4096) == 0, "a connection is refused");
+        for (uint32_t i = 0; i < waiting[k]; i++)
+            must(box_offer(before, WORDS, 1 + i % 16, 1) == 0, "an offer is refused");
+        report(waiting[k]);
+    }
+    return 0;
+}
