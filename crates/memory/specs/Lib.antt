@@ -1,0 +1,2 @@
+-- What the theorems about the program's memory speak of.
+pub mod Runs
