@@ -48,8 +48,7 @@ run-on-words ws (c ∷ calls) h =
     let l = left-by-call ws c h in
     let r = reply-on-words ws c h in
     let rest = run-on-words (leftBy ws c) calls (l .still-sound) in
-    let t = rest .0 ∙ ap (λ box. trace box calls) (l .stand-for) in
-    (
+    let t = rest .0 ∙ ap (λ box. trace box calls) (l .stand-for) in (
       λ i. record { slot = contents ws .counter; call = c; answer = r i } ∷ t i,
       rest .1,
       rest .2 ∙ ap (λ box. boxAfter box calls) (l .stand-for),
