@@ -2,3 +2,5 @@
 pub mod RunOnWords
 pub mod FromOpening
 pub mod Settles
+pub mod InMemory
+pub mod AsPromised
