@@ -46,7 +46,8 @@ module _ (set : Settings) (ws : List ℕ) (done : opened set ws .0 ≡ Opened.Do
   unfolding opened afterOpening
   opened-words = ap (afterOpening set ws) done
 
-  words-enough : boxWords ≤ length ws
+  -- There were words enough.
+  pub words-enough : boxWords ≤ length ws
   unfolding opened
   words-enough = ltb-false (length ws) boxWords (done-says set boxWords (length ws) done .1)
 

@@ -1,8 +1,8 @@
 -- What holds of every run from a new box, said of the program's memory: of the words that an opening left and any list of public calls
 -- changed, and of the answers that these gave. Each is the theorem of `guarantees` of the same name, carried by `run-from-opening`.
 use Prim.Native.Nat.{ℕ, suc, _+_, _≤_, _<_}
-use mathlib.Core.Path.{_≡_, sym, ap, _∙_}
-use mathlib.Core.Bool.{Bool, true, false}
+use mathlib.Core.Path.{_≡_}
+use mathlib.Core.Bool.{true, false}
 use mathlib.Core.List.{List, List·Memᴰ, map}
 use mathlib.Core.Logic.{_⊎_, _↔_}
 use lib.ListN.{length}

@@ -4,3 +4,4 @@ pub mod FromOpening
 pub mod Settles
 pub mod InMemory
 pub mod AsPromised
+pub mod Beyond

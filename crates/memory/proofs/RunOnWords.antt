@@ -1,10 +1,10 @@
 -- A run of the public calls on lent words gives the answers of the run on contents, and leaves sound words that stand for its box.
 use Prim.Native.Nat.{ℕ}
-use mathlib.Core.Path.{_≡_, refl, sym, ap, _∙_}
-use mathlib.Core.Bool.{Bool, true, false, cond, not}
+use mathlib.Core.Path.{_≡_, refl, ap, _∙_}
+use mathlib.Core.Bool.{true}
 use mathlib.Core.List.{List, [], _∷_}
 use Rattle.meaning.specs.Box.{Box, sound}
-use Rattle.words.specs.Contents.{contents, put}
+use Rattle.words.specs.Contents.{contents}
 use Rattle.words.specs.Sound.{soundWords}
 use Rattle.words.proofs.Counts.{sound-put, sound-fitting, sound-contents-put}
 use Rattle.words.proofs.TestedSound.{sound-contents}

@@ -1,9 +1,12 @@
 -- A run of the public calls on lent words: the answers that the promises of `admit`, `offer` and `step` give, and the words that each
 -- of them leaves for the next.
 use Prim.Native.Nat.{ℕ}
+use mathlib.Core.Path.{_≡_}
 use mathlib.Core.List.{List, [], _∷_}
+use lib.ListN.{length, drop}
 use Rattle.meaning.specs.Numbers.{Settings}
 use Rattle.meaning.specs.Box.{Box}
+use Rattle.words.specs.Places.{boxWords}
 use Rattle.words.specs.Contents.{contents}
 use Rattle.words.specs.Opening.{opened}
 use Rattle.multiplexer.specs.Promised.{admission, wordsAdmitted, offering, wordsOffered, stepping, wordsStepped}
@@ -40,3 +43,7 @@ openedWords set ws calls = leftByRun (opened set ws .1) calls
 
 abbrev pub openedBox : Settings → List ℕ → List Call → Box
 openedBox set ws calls = contents (openedWords set ws calls)
+
+-- There are as many words as before, and "words beyond a state .. are never altered".
+abbrev pub BeyondKept : List ℕ → List ℕ → Type 0
+BeyondKept ws exit = (length exit ≡ length ws) × (drop boxWords exit ≡ drop boxWords ws)
