@@ -1,0 +1,53 @@
+-- "answers satisfying one promise are proved the same": for each public function on words, two results and two final memories that
+-- satisfy its promise at the same entry are the same. The plan's functions have theirs in `plan`, `Settled`.
+use Prim.Native.Nat.{ℕ}
+use mathlib.Core.Path.{_≡_, sym, ap, _∙_}
+use mathlib.Core.Bool.{Bool}
+use mathlib.Core.List.{List}
+use Rattle.meaning.specs.declared.Opened.{Opened}
+use Rattle.meaning.specs.declared.Admitted.{Admitted}
+use Rattle.meaning.specs.declared.Offered.{Offered}
+use Rattle.meaning.specs.declared.Stepped.{Stepped}
+use Rattle.admission.specs.declared.Asked.{Asked}
+use Rattle.memory.specs.Promises.{OpenPromise, SoundPromise, AdmitPromise, OfferPromise, StepPromise, AdmitSoundPromise, OfferSoundPromise, StepSoundPromise}
+
+-- What both equal settles them.
+one : {A : Type 0} {a b c : A} → a ≡ c → b ≡ c → a ≡ b
+one p q = p ∙ sym q
+
+-- `words::opening::open`
+pub open-settles : (entry : List ℕ) (d m : ℕ) (factors : List ℕ) (r s : Opened) (after left : List ℕ) →
+    OpenPromise entry d m factors r after → OpenPromise entry d m factors s left → (r ≡ s) × (after ≡ left)
+open-settles entry d m factors r s after left p q = (ap (λ x. x .0) (one p q), ap (λ x. x .1) (one p q))
+
+-- `words::soundness::is_sound`, which is lent its words to read only
+pub is-sound-settles : (entry : List ℕ) (r s : Bool) → SoundPromise entry r → SoundPromise entry s → r ≡ s
+is-sound-settles entry r s = one
+
+-- `multiplexer::admitting::admit`
+pub admit-settles : (entry : List ℕ) (class longest burst period : ℕ) (r s : Admitted) (after left : List ℕ) →
+    AdmitPromise entry class longest burst period r after → AdmitPromise entry class longest burst period s left → (r ≡ s) × (after ≡ left)
+admit-settles entry class longest burst period r s after left p q = (one (p .0) (q .0), one (p .1) (q .1))
+
+-- `multiplexer::offering::offer`
+pub offer-settles : (entry : List ℕ) (n units : ℕ) (r s : Offered) (after left : List ℕ) →
+    OfferPromise entry n units r after → OfferPromise entry n units s left → (r ≡ s) × (after ≡ left)
+offer-settles entry n units r s after left p q = (one (p .0) (q .0), one (p .1) (q .1))
+
+-- `multiplexer::stepping::step`
+pub step-settles : (entry : List ℕ) (r s : Stepped) (after left : List ℕ) →
+    StepPromise entry r after → StepPromise entry s left → (r ≡ s) × (after ≡ left)
+step-settles entry r s after left p q = (one (p .0) (q .0), one (p .1) (q .1))
+
+-- The same calls for words that are known to be sound: `admit_sound`, `offer_sound` and `step_sound`.
+pub admit-sound-settles : (entry : List ℕ) (c : Asked) (r s : Admitted) (after left : List ℕ) →
+    AdmitSoundPromise entry c r after → AdmitSoundPromise entry c s left → (r ≡ s) × (after ≡ left)
+admit-sound-settles entry c r s after left p q = (one (p .0) (q .0), one (p .1 .words-are) (q .1 .words-are))
+
+pub offer-sound-settles : (entry : List ℕ) (n units : ℕ) (r s : Offered) (after left : List ℕ) →
+    OfferSoundPromise entry n units r after → OfferSoundPromise entry n units s left → (r ≡ s) × (after ≡ left)
+offer-sound-settles entry n units r s after left p q = (one (p .0) (q .0), one (p .1 .words-are) (q .1 .words-are))
+
+pub step-sound-settles : (entry : List ℕ) (r s : Stepped) (after left : List ℕ) →
+    StepSoundPromise entry r after → StepSoundPromise entry s left → (r ≡ s) × (after ≡ left)
+step-sound-settles entry r s after left p q = (one (p .0) (q .0), one (p .1 .words-are) (q .1 .words-are))

@@ -1,0 +1,4 @@
+-- What the theorems about the program's memory speak of.
+pub mod Runs
+pub mod Promises
+pub mod Performed

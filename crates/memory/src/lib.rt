@@ -1,0 +1,1 @@
+// Theorems about the program's memory: see specs/ and proofs/. There is no code here.
