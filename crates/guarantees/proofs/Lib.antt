@@ -24,6 +24,7 @@ pub mod Once
 pub mod Order
 pub mod Always
 pub mod Statements
+pub mod UnitSent
 pub mod Turning
 pub mod Isolated
 pub mod WorkedRun
