@@ -1,24 +1,10 @@
 // Runs the plans of data/, 01.plan to 59.plan, and prints for each a line with its number and the lines of its run. The expected lines are
 // those of the independent implementation under tests/.
 ghost use Prim.Native.Nat.{_≤_};
-ghost use mathlib.Core.Path.{_≡_};
-ghost use lib.ListN.{length};
 use libc::STDOUT_FILENO;
+use whole_run::rooms::plan_room;
+use whole_run::rooms::text_room;
 use whole_run::running::run_plan;
-
-// Room for the longest plan and one byte more, by which a longer one is seen and refused.
-fn plan_room() -> [u8; 65537]
-    ensures { λ r. ⌜ 65537 ≡ length r ⌝ }
-{
-    [0u8; 65537]
-}
-
-// Room for the longest text of a run.
-fn text_room() -> [u8; 420000]
-    ensures { λ r. ⌜ 420000 ≡ length r ⌝ }
-{
-    [0u8; 420000]
-}
 
 // Writes the text of a run.
 fn put_out(text: &[u8], size: usize) {

@@ -5,6 +5,7 @@ use super::printing::print_end;
 use super::printing::print_offer;
 use super::printing::print_refused;
 use super::printing::print_stop;
+use super::rooms::box_room;
 use meaning::Admitted;
 use meaning::Header;
 use meaning::Offered;
@@ -261,13 +262,6 @@ fn copy_factors(table: &[u8], factors: &mut [u32]) {
     }
 }
 
-// Words for a box. The contract says the length alone, so that no proof looks at the words.
-fn blank() -> [u32; 4371]
-    ensures { λ r. ⌜ 4371 ≡ length r ⌝ }
-{
-    [0u32; 4371]
-}
-
 // The run of a plan in a box that is open.
 fn run_open(ws: &mut [u32], plan: &[u8], h: Header, out: &mut [u8]) -> usize {
     let mut numbers = [0u32; 32];
@@ -281,7 +275,7 @@ fn run_open(ws: &mut [u32], plan: &[u8], h: Header, out: &mut [u8]) -> usize {
 
 // "opens a box", or prints only `REFUSED` and the number.
 fn run_read(plan: &[u8], h: Header, out: &mut [u8]) -> usize {
-    let mut ws = blank();
+    let mut ws = box_room();
     let mut factors = [0u32; 8];
     let table = classes(plan, h);
     copy_factors(table, &mut factors);

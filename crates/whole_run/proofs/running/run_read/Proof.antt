@@ -6,8 +6,8 @@ use borrow.Author.Needs.{needs}
 use Rattle.whole_run.proofs.running.run_read.Statement.{statement}
 use Rattle.whole_run.proofs.running.run_read.Tie as tie
 
-blank-requires : tie.Need-blank-requires
-blank-requires c κs = search needs
+box-room-requires : tie.Need-box-room-requires
+box-room-requires c κs = search needs
 
 classes-requires : tie.Need-classes-requires
 classes-requires c κs = search needs
@@ -82,7 +82,7 @@ pub run-read-spec : {M : Type 1} → statement M
 run-read-spec =
     tie.close
     (tie.spec
-    blank-requires
+    box-room-requires
     classes-requires
     slice-aggregate-copy-factors
     copy-factors-requires
