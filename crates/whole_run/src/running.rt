@@ -34,11 +34,7 @@ use words::numbers::wide;
 fn number_given(answer: Admitted) -> u32 {
     match answer {
         Admitted::Taken(n) => n,
-        Admitted::NotSound => 0,
-        Admitted::OffRange => 0,
-        Admitted::TableFull => 0,
-        Admitted::RateExceeded => 0,
-        Admitted::ConditionFails(t) => 0,
+        _ => 0,
     }
 }
 
@@ -126,11 +122,7 @@ struct Progress {
 fn serial_given(answer: Offered, before: u32) -> u32 {
     match answer {
         Offered::Accepted(serial) => serial,
-        Offered::NotSound => before,
-        Offered::NoConnection => before,
-        Offered::WrongLength => before,
-        Offered::NotFitting => before,
-        Offered::StoreFull => before,
+        _ => before,
     }
 }
 
@@ -163,17 +155,10 @@ fn offer_all(
 // The number of a step that is refused, 0 for one that is not.
 fn stop_number(answer: Stepped) -> u32 {
     match answer {
-        Stepped::Idle => 0,
-        Stepped::Sending { serial, left } => 0,
-        Stepped::Departed {
-            serial,
-            connection,
-            arrival,
-            departure,
-        } => 0,
         Stepped::NotSound => 1,
         Stepped::CounterEnded => 12,
         Stepped::TurnBlocked => 11,
+        _ => 0,
     }
 }
 
@@ -182,25 +167,14 @@ fn departures(answer: Stepped) -> u32
     ensures { λ r. ⌜ r ≤ 1 ⌝ }
 {
     match answer {
-        Stepped::Idle => 0,
-        Stepped::Sending { serial, left } => 0,
-        Stepped::Departed {
-            serial,
-            connection,
-            arrival,
-            departure,
-        } => 1,
-        Stepped::NotSound => 0,
-        Stepped::CounterEnded => 0,
-        Stepped::TurnBlocked => 0,
+        Stepped::Departed { .. } => 1,
+        _ => 0,
     }
 }
 
 // The line of a step, if it has one: that of a departure.
 fn print_stepped(out: &mut [u8], at: usize, numbers: &[u32], answer: Stepped) -> usize {
     match answer {
-        Stepped::Idle => at,
-        Stepped::Sending { serial, left } => at,
         Stepped::Departed {
             serial,
             connection,
@@ -214,9 +188,7 @@ fn print_stepped(out: &mut [u8], at: usize, numbers: &[u32], answer: Stepped) ->
             arrival,
             departure,
         ),
-        Stepped::NotSound => at,
-        Stepped::CounterEnded => at,
-        Stepped::TurnBlocked => at,
+        _ => at,
     }
 }
 
