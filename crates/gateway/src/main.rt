@@ -3,6 +3,7 @@ use libc::STDIN_FILENO;
 use libc::STDOUT_FILENO;
 use whole_run::rooms::plan_room;
 use whole_run::rooms::text_room;
+use whole_run::running::Printed;
 use whole_run::running::run_plan;
 
 // Writes the text; where it cannot be written, standard error says so.
@@ -19,6 +20,9 @@ fn main() {
     let mut plan = plan_room();
     let mut text = text_room();
     let n = io::read_full(STDIN_FILENO, &mut plan);
-    let size = run_plan(&plan[..n], &mut text);
-    put_out(&text, size);
+    let printed = run_plan(&plan[..n], &mut text);
+    match printed {
+        Printed::Written(size) => put_out(&text, size),
+        Printed::TooShort => os::fail(b"room for the text"),
+    }
 }

@@ -25,7 +25,7 @@ use Rattle.multiplexer.specs.Promised.{wordsAfter, wordsAdmitted, wordsOffered,
 use Rattle.guarantees.specs.Runs.{Call, admit, offer, step, after}
 use Rattle.guarantees.proofs.Always.{sound-after}
 use Rattle.memory.specs.Runs.{leftBy, leftByRun, BeyondKept}
-use Rattle.memory.proofs.FromOpening.{opened-allowed, words-enough}
+use Rattle.words.proofs.Opened.{opened-allowed, words-enough}
 
 -- The words of a sound box take none of them.
 put-beyond : (box : Box) (ws : List ℕ) → sound box ≡ true → boxWords ≤ length ws → BeyondKept ws (put box ws)

@@ -31,7 +31,8 @@ use Rattle.guarantees.proofs.Turning
 use Rattle.guarantees.proofs.Isolated
 use Rattle.memory.specs.Runs.{leftBy, openedTrace, openedWords, openedBox}
 use Rattle.memory.proofs.RunOnWords.{left-by-call}
-use Rattle.memory.proofs.FromOpening.{opened-allowed, run-from-opening}
+use Rattle.words.proofs.Opened.{opened-allowed}
+use Rattle.memory.proofs.FromOpening.{run-from-opening}
 
 -- The answer of an offer or a step on sound words is that of their contents.
 offer-there : (ws : List ℕ) → soundWords ws ≡ true → (n units : ℕ) → offering ws n units ≡ offerAnswer (contents ws) n units

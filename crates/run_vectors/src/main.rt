@@ -4,6 +4,7 @@ ghost use Prim.Native.Nat.{_≤_};
 use libc::STDOUT_FILENO;
 use whole_run::rooms::plan_room;
 use whole_run::rooms::text_room;
+use whole_run::running::Printed;
 use whole_run::running::run_plan;
 
 // Writes the text of a run.
@@ -26,9 +27,12 @@ fn show(tens: u8, ones: u8) {
     let mut text = text_room();
     let n = io::read_full(fd, &mut plan);
     libc::close(fd);
-    let size = run_plan(&plan[..n], &mut text);
     io::write_all(STDOUT_FILENO, &[b'=', b'=', b' ', tens, ones, b'\n']);
-    put_out(&text, size);
+    let printed = run_plan(&plan[..n], &mut text);
+    match printed {
+        Printed::Written(size) => put_out(&text, size),
+        Printed::TooShort => os::fail(&path),
+    }
 }
 
 // The files whose numbers begin with this digit and end in these, the last left out.

@@ -1,1 +1,12 @@
-pub mod LineMost
+pub mod Reached
+pub mod Lookups
+pub mod Admitting
+pub mod Offering
+pub mod Due
+pub mod Factors
+pub mod Passing
+pub mod Stepping
+pub mod SlotRun
+pub mod Going
+pub mod Whole
+pub mod Texts

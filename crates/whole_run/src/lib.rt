@@ -1,4 +1,8 @@
 // One whole run of a plan, as text. Document 01, "The program and one whole run".
-pub mod printing;
+mod admissions;
+mod answers;
+mod offers;
+mod places;
 pub mod rooms;
 pub mod running;
+mod slots;

@@ -3,6 +3,7 @@ pub mod Rotation
 pub mod PutContents
 pub mod ContentsPut
 pub mod Counts
+pub mod Opened
 pub mod TableReads
 pub mod QueuesTested
 pub mod TestedSound

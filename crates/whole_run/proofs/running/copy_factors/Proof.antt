@@ -1,20 +1,23 @@
--- `whole_run::running::copy_factors` is safe and ends.
-use borrow.Author.Needs.{needs}
-use Prim.Native.Nat.{_+_, _-_, _*_, _≤_, _<_}
-use mathlib.Core.Path.{_≡_}
+-- `whole_run::running::copy_factors`: factor after factor.
+use Prim.Native.Nat.{_-_, _≤_}
+use mathlib.Core.Path.{_≡_, refl, sym, ap, _∙_}
 use native.Mathlib.Omega.{arith}
-use lib.ListN.{length, length-set}
+use lib.ListN.{length, take, length-set}
+use Rattle.meaning.specs.Plan.{wordsOf, factorAt, table}
+use Rattle.whole_run.proofs.Factors.{factor-on, factors-end}
+use borrow.Author.Needs.{needs}
 use Rattle.whole_run.proofs.running.copy_factors.Statement.{statement}
 use Rattle.whole_run.proofs.running.copy_factors.Tie as tie
 
 abbrev Inv-loop : tie.InvT-loop
-Inv-loop table factors₀ i₀ factors i = (i ≤ length factors) × (length factors ≡ length factors₀)
+Inv-loop classes factors₀ i₀ factors i =
+    (i ≤ length factors) × (length factors ≡ length factors₀) × (take i factors ≡ table factorAt 1 (wordsOf classes) 0 i)
 
 abbrev μ-loop : tie.MeasureT-loop
-μ-loop table factors₀ i₀ factors i = length factors - i
+μ-loop classes factors₀ i₀ factors i = length factors - i
 
 loop-holds : tie.Need-loop-holds Inv-loop μ-loop
-loop-holds c = search needs
+loop-holds c = (omega arith, refl, unfold table in refl)
 
 factor-requires : tie.Need-factor-requires Inv-loop μ-loop
 factor-requires c κs = search needs
@@ -29,16 +32,18 @@ add-i : tie.Need-add-i Inv-loop μ-loop
 add-i c = search needs
 
 loop-less : tie.Need-loop-less Inv-loop μ-loop
-loop-less c = simp length-set (omega arith)
+loop-less c = simp length-set (omega (arith, c .before .loop-test .taken))
 
 loop-again : tie.Need-loop-again Inv-loop μ-loop
-loop-again c = (simp length-set (omega arith), simp length-set (omega arith))
+loop-again c =
+    (simp length-set (omega (arith, c .before .loop-test .taken)), simp length-set (omega (arith, c .before .before .loop .inv .1)), factor-on _ _ _ _ (c .before .loop-test .taken) (c .factor .ensures) (c .before .before .loop .inv .2))
 
 same-length : tie.Need-same-length Inv-loop μ-loop
 same-length c = search needs
 
 returns : tie.Need-returns Inv-loop μ-loop
-returns c = search needs
+returns c =
+    factors-end _ _ (c .before .before .before .before .args .factors .now) _ (omega (arith, c .before .loop .inv .0, c .loop-test .left)) (c .before .loop .inv .1) (c .before .loop .inv .2)
 
 pub copy-factors-spec : {M : Type 1} → statement M
 copy-factors-spec =

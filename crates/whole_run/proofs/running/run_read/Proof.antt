@@ -1,7 +1,19 @@
--- `whole_run::running::run_read` is safe and ends.
-use mathlib.Core.Path.{sym}
+-- `whole_run::running::run_read`: opening decides.
+use Prim.Native.Nat.{ℕ, _/_}
+use mathlib.Core.Path.{_≡_, sym, ap, subst, _∙_}
+use mathlib.Core.List.{List}
 use native.Mathlib.Omega.{arith}
+use lib.ListN.{length, take}
 use lib.Seq.{length-take-le}
+use Rattle.meaning.specs.declared.Opened.{Opened}
+use Rattle.meaning.specs.Calls.{newBox}
+use Rattle.words.specs.Contents.{contents}
+use Rattle.words.specs.Sound.{soundWords}
+use Rattle.words.specs.Opening.{asked, opened}
+use Rattle.words.proofs.Opened.{opened-sound, opened-new}
+use Rattle.lines.specs.Put.{Room, Put}
+use Rattle.whole_run.proofs.Whole.{classes-few, factors-are}
+use Rattle.whole_run.proofs.Texts.{run-opened, refused-2, refused-17}
 use borrow.Author.Needs.{needs}
 use Rattle.whole_run.proofs.running.run_read.Statement.{statement}
 use Rattle.whole_run.proofs.running.run_read.Tie as tie
@@ -18,23 +30,18 @@ slice-aggregate-copy-factors c = search needs
 copy-factors-requires : tie.Need-copy-factors-requires
 copy-factors-requires c κs = search needs
 
-print-refused-requires : tie.Need-print-refused-requires
-print-refused-requires c κs = search needs
-
-same-length : tie.Need-same-length
-same-length c = search needs
-
-returns : tie.Need-returns
-returns c = search needs
-
 slice-aggregate-open : tie.Need-slice-aggregate-open
 slice-aggregate-open c = search needs
 
 array-share-prefix-factors : tie.Need-array-share-prefix-factors
-array-share-prefix-factors c = search needs
+array-share-prefix-factors c =
+    let few = classes-few _ _ (c .before .before .before .before .before .before .before .before .pre .0) _ (c .before .before .before .before .classes .ensures) in
+    omega (arith, few, c .before .before .copy-factors .kept .1)
 
 slice-aggregate-open-2 : tie.Need-slice-aggregate-open-2
-slice-aggregate-open-2 c = sym (length-take-le _ (c .before .before .before .before .copy-factors .last .1 .0) (omega (arith, c .before .before .before .before .copy-factors .kept .1)))
+slice-aggregate-open-2 c =
+    let few = classes-few _ _ (c .before .before .before .before .before .before .before .before .before .pre .0) _ (c .before .before .before .before .before .classes .ensures) in
+    sym (length-take-le _ (c .before .before .before .copy-factors .last .1 .0) (omega (arith, few, c .before .before .before .copy-factors .kept .1)))
 
 open-requires : tie.Need-open-requires
 open-requires c κs = search needs
@@ -46,37 +53,98 @@ slice-aggregate-run-open : tie.Need-slice-aggregate-run-open
 slice-aggregate-run-open c = search needs
 
 run-open-requires : tie.Need-run-open-requires
-run-open-requires c κs = search needs
+run-open-requires c κs =
+    let s = c .before .before .before .before .before .before .before .before .before .before .before .before .before .before .before in
+    let p = c .before .before .before .before .before .open .ensures in
+    let classes = c .before .before .before .before .before .before .before .before .before .before .before .classes in
+    let copied = c .before .before .before .before .before .before .before .before .before .copy-factors in
+    let set = asked (s .args .h .interval) (s .args .h .cycle) (take (length (classes .result .now) / 4) (copied .last .1 .0)) in
+    let same = factors-are (s .args .plan .now) (s .args .h) (s .pre .0) (classes .result .now) (classes .ensures) (copied .last .1 .0) (copied .ensures) in
+    let room = c .before .before .before .before .before .before .before .before .before .before .before .before .box-room in
+    let answer : c .before .before .before .before .before .open .result ≡ opened set (room .result) .0 = ap (λ (q : Opened × List ℕ). q .0) p in
+    let words : c .before .before .before .before .before .open .last .0 ≡ opened set (room .result) .1 = ap (λ (q : Opened × List ℕ). q .1) p in
+    let done = sym answer ∙ c .before .before .enum-told .given .1 in (
+      (ap soundWords words ∙ opened-sound set (room .result) done, ap contents words ∙ opened-new set (room .result) done ∙ ap newBox same, s .pre .0),
+      subst (λ (l : List ℕ). Room (s .args .out .now) 0 l) (run-opened (s .args .plan .now) (s .args .h) (s .pre .0) set same (room .result) (sym (room .ensures)) _ answer (c .before .before .enum-told .given .1)) (s .pre .1),
+    )
 
 enum-told-2 : tie.Need-enum-told-2
 enum-told-2 c = search needs
 
-print-refused-requires-2 : tie.Need-print-refused-requires-2
-print-refused-requires-2 c κs = search needs
+put-refused-requires : tie.Need-put-refused-requires
+put-refused-requires c κs =
+    let s = c .before .before .before .before .before .before .before .before .before .before .before .before .before .before in
+    let p = c .before .before .before .before .open .ensures in
+    let classes = c .before .before .before .before .before .before .before .before .before .before .classes in
+    let copied = c .before .before .before .before .before .before .before .before .copy-factors in
+    let set = asked (s .args .h .interval) (s .args .h .cycle) (take (length (classes .result .now) / 4) (copied .last .1 .0)) in
+    let same = factors-are (s .args .plan .now) (s .args .h) (s .pre .0) (classes .result .now) (classes .ensures) (copied .last .1 .0) (copied .ensures) in
+    let room = c .before .before .before .before .before .before .before .before .before .before .before .box-room in
+    let answer : c .before .before .before .before .open .result ≡ opened set (room .result) .0 = ap (λ (q : Opened × List ℕ). q .0) p in
+    subst (λ (l : List ℕ). Room (s .args .out .now) 0 l) (refused-2 (s .args .plan .now) (s .args .h) (s .pre .0) set same (room .result) (sym (room .ensures)) _ answer (c .before .enum-told2 .given .1)) (s .pre .1)
 
 enum-told-3 : tie.Need-enum-told-3
 enum-told-3 c = search needs
 
-print-refused-requires-3 : tie.Need-print-refused-requires-3
-print-refused-requires-3 c κs = search needs
+put-refused-requires-2 : tie.Need-put-refused-requires-2
+put-refused-requires-2 c κs =
+    let s = c .before .before .before .before .before .before .before .before .before .before .before .before .before .before in
+    let p = c .before .before .before .before .open .ensures in
+    let classes = c .before .before .before .before .before .before .before .before .before .before .classes in
+    let copied = c .before .before .before .before .before .before .before .before .copy-factors in
+    let set = asked (s .args .h .interval) (s .args .h .cycle) (take (length (classes .result .now) / 4) (copied .last .1 .0)) in
+    let same = factors-are (s .args .plan .now) (s .args .h) (s .pre .0) (classes .result .now) (classes .ensures) (copied .last .1 .0) (copied .ensures) in
+    let room = c .before .before .before .before .before .before .before .before .before .before .before .box-room in
+    let answer : c .before .before .before .before .open .result ≡ opened set (room .result) .0 = ap (λ (q : Opened × List ℕ). q .0) p in
+    subst (λ (l : List ℕ). Room (s .args .out .now) 0 l) (refused-17 (s .args .plan .now) (s .args .h) (s .pre .0) set same (room .result) (sym (room .ensures)) _ answer (c .before .enum-told3 .given .1)) (s .pre .1)
+
+same-length : tie.Need-same-length
+same-length c = search needs
+
+returns : tie.Need-returns
+returns c =
+    let s = c .before .before .before .before .before .before .before .before .before .before .before .before .before .before .before .before .before .before .before in
+    let p = c .before .before .before .before .before .before .before .before .before .open .ensures in
+    let classes = c .before .before .before .before .before .before .before .before .before .before .before .before .before .before .before .classes in
+    let copied = c .before .before .before .before .before .before .before .before .before .before .before .before .before .copy-factors in
+    let set = asked (s .args .h .interval) (s .args .h .cycle) (take (length (classes .result .now) / 4) (copied .last .1 .0)) in
+    let same = factors-are (s .args .plan .now) (s .args .h) (s .pre .0) (classes .result .now) (classes .ensures) (copied .last .1 .0) (copied .ensures) in
+    let room = c .before .before .before .before .before .before .before .before .before .before .before .before .before .before .before .before .box-room in
+    let answer : c .before .before .before .before .before .before .before .before .before .open .result ≡ opened set (room .result) .0 = ap (λ (q : Opened × List ℕ). q .0) p in
+    let q = c .before .before .before .run-open in
+    subst (λ (l : List ℕ). Put (s .args .out .now) (q .last .1 .1 .1 .0) 0 l (q .result)) (sym (run-opened (s .args .plan .now) (s .args .h) (s .pre .0) set same (room .result) (sym (room .ensures)) _ answer (c .before .before .before .before .before .before .enum-told .given .1))) (q .ensures)
 
 same-length-2 : tie.Need-same-length-2
 same-length-2 c = search needs
 
 returns-2 : tie.Need-returns-2
-returns-2 c = search needs
+returns-2 c =
+    let s = c .before .before .before .before .before .before .before .before .before .before .before .before .before .before .before .before .before in
+    let p = c .before .before .before .before .before .before .before .open .ensures in
+    let classes = c .before .before .before .before .before .before .before .before .before .before .before .before .before .classes in
+    let copied = c .before .before .before .before .before .before .before .before .before .before .before .copy-factors in
+    let set = asked (s .args .h .interval) (s .args .h .cycle) (take (length (classes .result .now) / 4) (copied .last .1 .0)) in
+    let same = factors-are (s .args .plan .now) (s .args .h) (s .pre .0) (classes .result .now) (classes .ensures) (copied .last .1 .0) (copied .ensures) in
+    let room = c .before .before .before .before .before .before .before .before .before .before .before .before .before .before .box-room in
+    let answer : c .before .before .before .before .before .before .before .open .result ≡ opened set (room .result) .0 = ap (λ (q : Opened × List ℕ). q .0) p in
+    let q = c .before .before .put-refused in
+    subst (λ (l : List ℕ). Put (s .args .out .now) (q .last .0) 0 l (q .result)) (sym (refused-2 (s .args .plan .now) (s .args .h) (s .pre .0) set same (room .result) (sym (room .ensures)) _ answer (c .before .before .before .before .enum-told2 .given .1))) (q .ensures)
 
 same-length-3 : tie.Need-same-length-3
 same-length-3 c = search needs
 
 returns-3 : tie.Need-returns-3
-returns-3 c = search needs
-
-same-length-4 : tie.Need-same-length-4
-same-length-4 c = search needs
-
-returns-4 : tie.Need-returns-4
-returns-4 c = search needs
+returns-3 c =
+    let s = c .before .before .before .before .before .before .before .before .before .before .before .before .before .before .before .before .before in
+    let p = c .before .before .before .before .before .before .before .open .ensures in
+    let classes = c .before .before .before .before .before .before .before .before .before .before .before .before .before .classes in
+    let copied = c .before .before .before .before .before .before .before .before .before .before .before .copy-factors in
+    let set = asked (s .args .h .interval) (s .args .h .cycle) (take (length (classes .result .now) / 4) (copied .last .1 .0)) in
+    let same = factors-are (s .args .plan .now) (s .args .h) (s .pre .0) (classes .result .now) (classes .ensures) (copied .last .1 .0) (copied .ensures) in
+    let room = c .before .before .before .before .before .before .before .before .before .before .before .before .before .before .box-room in
+    let answer : c .before .before .before .before .before .before .before .open .result ≡ opened set (room .result) .0 = ap (λ (q : Opened × List ℕ). q .0) p in
+    let q = c .before .before .put-refused2 in
+    subst (λ (l : List ℕ). Put (s .args .out .now) (q .last .0) 0 l (q .result)) (sym (refused-17 (s .args .plan .now) (s .args .h) (s .pre .0) set same (room .result) (sym (room .ensures)) _ answer (c .before .before .before .before .enum-told3 .given .1))) (q .ensures)
 
 pub run-read-spec : {M : Type 1} → statement M
 run-read-spec =
@@ -86,9 +154,6 @@ run-read-spec =
     classes-requires
     slice-aggregate-copy-factors
     copy-factors-requires
-    print-refused-requires
-    same-length
-    returns
     slice-aggregate-open
     array-share-prefix-factors
     slice-aggregate-open-2
@@ -97,12 +162,12 @@ run-read-spec =
     slice-aggregate-run-open
     run-open-requires
     enum-told-2
-    print-refused-requires-2
+    put-refused-requires
     enum-told-3
-    print-refused-requires-3
+    put-refused-requires-2
+    same-length
+    returns
     same-length-2
     returns-2
     same-length-3
-    returns-3
-    same-length-4
-    returns-4)
+    returns-3)

@@ -1,0 +1,96 @@
+-- The text of the run of any bytes: refused by reading, refused by opening, or run.
+use Prim.Native.Nat.{ℕ, _≤_}
+use mathlib.Core.Path.{_≡_, refl, sym, ap, _∙_, subst}
+use mathlib.Core.Bool.{Bool, true, false, cond, not}
+use mathlib.Core.List.{List, [], _∷_}
+use native.Mathlib.Omega.{arith}
+use lib.ListN.{length}
+use lib.Dec.{ltb}
+use borrow.Author.Tests.{lt-ltb, le-ltb}
+use Rattle.meaning.specs.declared.Header.{Header}
+use Rattle.meaning.specs.declared.Opened.{Opened}
+use Rattle.meaning.specs.declared.PlanRead.{PlanRead}
+use Rattle.meaning.specs.Numbers.{Settings, settingsAllowed}
+use Rattle.meaning.specs.Answers.{refusal, opened, planRead}
+use Rattle.meaning.specs.Calls.{openingAnswer}
+use Rattle.meaning.specs.Plan.{wordsOf, contentsOf, readingAnswer}
+use Rattle.meaning.specs.Run.{Line, refusedLine, openRun, planRun, readRun, run}
+use Rattle.meaning.specs.Lines.{lineText, runText}
+use Rattle.meaning.proofs.TextMost.{textOf}
+use Rattle.meaning.proofs.RunFits.{textMost, run-fits}
+use Rattle.words.specs.Places.{boxWords}
+use Rattle.words.specs.Opening as openings
+use Rattle.plan.specs.Good.{Readable, read-back}
+use Rattle.lines.specs.Put.{Room, Put, putAt}
+use Rattle.whole_run.specs.declared.running.Printed.{Printed}
+use Rattle.whole_run.specs.Printing.{printingAnswer, textAfter}
+use Rattle.whole_run.proofs.Reached.{text-one}
+
+run-text : (bytes : List ℕ) → runText bytes ≡ textOf (run bytes)
+unfolding runText textOf
+run-text bytes = refl
+
+-- There is room for it.
+pub text-room : (bytes out : List ℕ) → 420000 ≤ length out → Room out 0 (runText bytes)
+text-room bytes out h = let f = run-fits bytes in omega (arith, f, h)
+
+-- Reading refuses: one line.
+module _ (bytes : List ℕ) (answer : PlanRead) (is : answer ≡ readingAnswer bytes) where
+  reads : run bytes ≡ readRun bytes answer
+  unfolding run
+  reads = ap (readRun bytes) (sym is)
+
+  pub refused-13 : answer ≡ PlanRead.WrongSize → runText bytes ≡ lineText (refusedLine 13)
+  unfolding readRun planRead refusal
+  refused-13 e = run-text bytes ∙ ap textOf (reads ∙ ap (readRun bytes) e) ∙ text-one (refusedLine 13)
+
+  pub refused-14 : answer ≡ PlanRead.WrongSum → runText bytes ≡ lineText (refusedLine 14)
+  unfolding readRun planRead refusal
+  refused-14 e = run-text bytes ∙ ap textOf (reads ∙ ap (readRun bytes) e) ∙ text-one (refusedLine 14)
+
+  pub refused-15 : answer ≡ PlanRead.WrongLayout → runText bytes ≡ lineText (refusedLine 15)
+  unfolding readRun planRead refusal
+  refused-15 e = run-text bytes ∙ ap textOf (reads ∙ ap (readRun bytes) e) ∙ text-one (refusedLine 15)
+
+  pub refused-16 : answer ≡ PlanRead.WrongSlots → runText bytes ≡ lineText (refusedLine 16)
+  unfolding readRun planRead refusal
+  refused-16 e = run-text bytes ∙ ap textOf (reads ∙ ap (readRun bytes) e) ∙ text-one (refusedLine 16)
+
+-- Words enough are lent, so only the settings decide.
+opening-same : (settings : Settings) (ws : List ℕ) → length ws ≡ 4371 → openings.opened settings ws .0 ≡ openingAnswer 0 0 settings
+unfolding openings.opened openingAnswer
+opening-same settings ws e =
+    rw (le-ltb (length ws) boxWords (omega (arith, e))) refl
+
+-- Reading succeeds: opening decides.
+module _ (bytes : List ℕ) (h : Header) (r : Readable bytes h) (settings : Settings) (same : settings ≡ contentsOf (wordsOf bytes) h .settings) (ws : List ℕ) (size : length ws ≡ 4371) (answer : Opened) (is : answer ≡ openings.opened settings ws .0) where
+  opens : run bytes ≡ planRun (contentsOf (wordsOf bytes) h) (opened answer .number)
+  unfolding run readRun
+  opens =
+      ap (readRun bytes) (read-back bytes h r) ∙
+      ap (λ (a : Opened). planRun (contentsOf (wordsOf bytes) h) (opened a .number)) (sym (is ∙ opening-same settings ws size ∙ ap (openingAnswer 0 0) same))
+
+  pub run-opened : answer ≡ Opened.Done → runText bytes ≡ textOf (openRun (contentsOf (wordsOf bytes) h))
+  unfolding opened planRun
+  run-opened e = run-text bytes ∙ ap textOf (opens ∙ ap (λ (a : Opened). planRun (contentsOf (wordsOf bytes) h) (opened a .number)) e)
+
+  pub refused-2 : answer ≡ Opened.OffRange → runText bytes ≡ lineText (refusedLine 2)
+  unfolding opened planRun refusal
+  refused-2 e = run-text bytes ∙ ap textOf (opens ∙ ap (λ (a : Opened). planRun (contentsOf (wordsOf bytes) h) (opened a .number)) e) ∙ text-one (refusedLine 2)
+
+  pub refused-17 : answer ≡ Opened.TooShort → runText bytes ≡ lineText (refusedLine 17)
+  unfolding opened planRun refusal
+  refused-17 e = run-text bytes ∙ ap textOf (opens ∙ ap (λ (a : Opened). planRun (contentsOf (wordsOf bytes) h) (opened a .number)) e) ∙ text-one (refusedLine 17)
+
+-- What is promised of a buffer that is too short, and of one that is long enough.
+pub too-short : (bytes out : List ℕ) → length out ≤ 419999 → (Printed.TooShort ≡ printingAnswer bytes (length out)) × (out ≡ textAfter bytes out)
+unfolding printingAnswer textAfter
+too-short bytes out h = let e = lt-ltb (length out) textMost (omega (arith, h)) in (rw e refl, rw e refl)
+
+pub printed-whole : (bytes out last : List ℕ) (next : ℕ) → 420000 ≤ length out → Put out last 0 (runText bytes) next
+    → (Printed.Written next ≡ printingAnswer bytes (length out)) × (last ≡ textAfter bytes out)
+unfolding printingAnswer textAfter
+printed-whole bytes out last next h p =
+    let e = le-ltb (length out) textMost (omega (arith, h)) in
+    let n : next ≡ length (runText bytes) = omega (arith, p .place) in
+    (rw e (ap Printed.Written n), rw e (p .bytes))

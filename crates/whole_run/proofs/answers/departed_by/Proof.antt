@@ -1,0 +1,68 @@
+-- `whole_run::answers::departed_by`: each case of the answer.
+use mathlib.Core.Path.{sym, ap}
+use mathlib.Core.List.{[]}
+use lib.ListN.{length}
+use borrow.Author.Needs.{needs}
+use Rattle.meaning.specs.declared.Stepped.{Stepped}
+use Rattle.meaning.specs.Run.{departures}
+use Rattle.whole_run.proofs.answers.departed_by.Statement.{statement}
+use Rattle.whole_run.proofs.answers.departed_by.Tie as tie
+
+enum-told : tie.Need-enum-told
+enum-told c = search needs
+
+enum-told-2 : tie.Need-enum-told-2
+enum-told-2 c = search needs
+
+enum-told-3 : tie.Need-enum-told-3
+enum-told-3 c = search needs
+
+enum-told-4 : tie.Need-enum-told-4
+enum-told-4 c = search needs
+
+enum-told-5 : tie.Need-enum-told-5
+enum-told-5 c = search needs
+
+enum-told-6 : tie.Need-enum-told-6
+enum-told-6 c = search needs
+
+returns : tie.Need-returns
+unfolding departures
+returns c = sym (ap (λ (a : Stepped). length (departures [] a)) (c .enum-told .given .1))
+
+returns-2 : tie.Need-returns-2
+unfolding departures
+returns-2 c = sym (ap (λ (a : Stepped). length (departures [] a)) (c .enum-told2 .given .1))
+
+returns-3 : tie.Need-returns-3
+unfolding departures
+returns-3 c = sym (ap (λ (a : Stepped). length (departures [] a)) (c .enum-told3 .given .1))
+
+returns-4 : tie.Need-returns-4
+unfolding departures
+returns-4 c = sym (ap (λ (a : Stepped). length (departures [] a)) (c .enum-told4 .given .1))
+
+returns-5 : tie.Need-returns-5
+unfolding departures
+returns-5 c = sym (ap (λ (a : Stepped). length (departures [] a)) (c .enum-told5 .given .1))
+
+returns-6 : tie.Need-returns-6
+unfolding departures
+returns-6 c = sym (ap (λ (a : Stepped). length (departures [] a)) (c .enum-told6 .given .1))
+
+pub departed-by-spec : {M : Type 1} → statement M
+departed-by-spec =
+    tie.close
+    (tie.spec
+    enum-told
+    enum-told-2
+    enum-told-3
+    enum-told-4
+    enum-told-5
+    enum-told-6
+    returns
+    returns-2
+    returns-3
+    returns-4
+    returns-5
+    returns-6)

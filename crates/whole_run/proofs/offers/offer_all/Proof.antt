@@ -1,0 +1,123 @@
+-- `whole_run::offers::offer_all`: one offer after another.
+use Prim.Native.Nat.{ℕ, _-_, _+_, _*_, _≤_, suc}
+use mathlib.Core.Path.{_≡_, refl, sym, ap, subst, _∙_}
+use native.Mathlib.Omega.{arith}
+use lib.ListN.{length, getD}
+use Rattle.meaning.specs.declared.Offered.{Offered}
+use Rattle.meaning.specs.Answers.{offered}
+use Rattle.meaning.specs.Calls.{offerAnswer, afterOffer}
+use Rattle.plan.specs.Parts.{arrivalOf}
+use Rattle.words.specs.Contents.{contents}
+use Rattle.multiplexer.specs.Promised.{Leaves}
+use Rattle.whole_run.proofs.Offering.{Offering, offer-start, offer-room, offer-on, offer-end}
+use borrow.Author.Needs.{needs}
+use Rattle.whole_run.proofs.offers.offer_all.Statement.{statement}
+use Rattle.whole_run.proofs.offers.offer_all.Tie as tie
+
+abbrev Inv-loop : tie.InvT-loop
+Inv-loop ws₀ due from numbers out₀ start count at₀ i₀ ws out at i =
+    (i ≤ count) × (length ws ≡ length ws₀) × (length out ≡ length out₀) × Offering numbers due from (contents ws₀) i ws out₀ out start at
+
+abbrev μ-loop : tie.MeasureT-loop
+μ-loop ws₀ due from numbers out₀ start count at₀ i₀ ws out at i = count - i
+
+loop-holds : tie.Need-loop-holds Inv-loop μ-loop
+loop-holds c = (omega arith, refl, refl, offer-start _ _ _ _ _ _ (c .before .before .before .before .pre .0 .0))
+
+arrival-requires : tie.Need-arrival-requires Inv-loop μ-loop
+arrival-requires c κs = search needs
+
+number-of-requires : tie.Need-number-of-requires Inv-loop μ-loop
+number-of-requires c κs = search needs
+
+offer-sound-requires : tie.Need-offer-sound-requires Inv-loop μ-loop
+offer-sound-requires c κs = c .before .before .before .before .loop .inv .3 .still-sound
+
+add-put-offer : tie.Need-add-put-offer Inv-loop μ-loop
+add-put-offer c =
+    omega (arith, c .before .before .before .before .before .before .before .loop-test .taken, c .before .before .before .before .before .before .before .before .before .before .before .before .before .pre .0 .1)
+
+add-put-offer-2 : tie.Need-add-put-offer-2 Inv-loop μ-loop
+add-put-offer-2 c =
+    omega (arith, c .before .before .before .before .before .before .before .loop-test .taken, c .before .before .before .before .before .before .before .before .before .before .before .before .before .pre .0 .1)
+
+cast-put-offer : tie.Need-cast-put-offer Inv-loop μ-loop
+cast-put-offer c =
+    omega (arith, c .before .before .before .before .before .before .before .loop-test .taken, c .before .before .before .before .before .before .before .before .before .before .before .before .before .pre .0 .1)
+
+offer-number-requires : tie.Need-offer-number-requires Inv-loop μ-loop
+offer-number-requires c κs = search needs
+
+serial-given-requires : tie.Need-serial-given-requires Inv-loop μ-loop
+serial-given-requires c κs = search needs
+
+put-offer-requires : tie.Need-put-offer-requires Inv-loop μ-loop
+unfolding arrivalOf
+put-offer-requires c κs =
+    let s = c .before .before .before .before .before .before .before .before .before .before .before .before .before .before .before in
+    let box = contents (c .before .before .before .before .before .before .before .before .before .before .loop .ws) in
+    let units = c .before .before .before .before .before .before .before .before .arrival .result .units in
+    let answer = c .before .before .before .before .before .offer-sound .ensures .0 ∙ ap (λ (n : ℕ). offerAnswer box n units) (c .before .before .before .before .before .before .number-of .ensures) in
+    offer-room (s .args .numbers .now) (s .args .due .now) (s .args .from) (c .before .before .before .before .before .before .before .before .before .before .loop .i) _ (c .before .before .before .before .before .before .before .before .arrival .ensures) (c .before .before .before .before .before .before .before .before .before .loop-test .taken) (s .pre .1) (c .before .before .before .before .before .before .before .before .before .before .loop .inv .3) _ _ _ (omega arith)
+    (c .before .offer-number .ensures ∙ ap (λ (a : Offered). offered a .number) answer)
+    (c .serial-given .ensures ∙ ap (λ (a : Offered). getD (offered a .fields) 0 0) answer)
+
+add-i : tie.Need-add-i Inv-loop μ-loop
+add-i c =
+    omega (arith, c .before .before .before .before .before .before .before .before .before .before .before .before .loop-test .taken, c .before .before .before .before .before .before .before .before .before .before .before .before .before .before .before .before .before .before .pre .0 .1)
+
+loop-less : tie.Need-loop-less Inv-loop μ-loop
+loop-less c =
+    omega (arith, c .before .before .before .before .before .before .before .before .before .before .before .before .loop-test .taken)
+
+loop-again : tie.Need-loop-again Inv-loop μ-loop
+unfolding arrivalOf
+loop-again c =
+    let s = c .before .before .before .before .before .before .before .before .before .before .before .before .before .before .before .before .before .before in
+    let i = c .before .before .before .before .before .before .before .before .before .before .before .before .before .loop .inv in
+    let below = c .before .before .before .before .before .before .before .before .before .before .before .before .loop-test .taken in
+    let box = contents (c .before .before .before .before .before .before .before .before .before .before .before .before .before .loop .ws) in
+    let units = c .before .before .before .before .before .before .before .before .before .before .before .arrival .result .units in
+    let answer = c .before .before .before .before .before .before .before .before .offer-sound .ensures .0 ∙ ap (λ (n : ℕ). offerAnswer box n units) (c .before .before .before .before .before .before .before .before .before .number-of .ensures) in
+    let left = subst (λ (n : ℕ). Leaves (c .before .before .before .before .before .before .before .before .before .before .before .before .before .loop .ws) (c .before .before .before .before .before .before .before .before .offer-sound .last .0) (afterOffer box n units (offerAnswer box n units))) (c .before .before .before .before .before .before .before .before .before .number-of .ensures) (c .before .before .before .before .before .before .before .before .offer-sound .ensures .1) in (
+      omega (arith, below),
+      omega (arith, i .1, c .before .before .before .before .before .before .before .before .offer-sound .kept .0),
+      omega (arith, i .2, c .before .before .put-offer .kept .0),
+      offer-on (s .args .numbers .now) (s .args .due .now) (s .args .from) (c .before .before .before .before .before .before .before .before .before .before .before .before .before .loop .i) _ (c .before .before .before .before .before .before .before .before .before .before .before .arrival .ensures) below (s .pre .1) (i .3) _ _ _ (omega arith)
+          (c .before .before .before .before .offer-number .ensures ∙ ap (λ (a : Offered). offered a .number) answer)
+          (c .before .before .before .serial-given .ensures ∙ ap (λ (a : Offered). getD (offered a .fields) 0 0) answer)
+          _ left (c .before .before .put-offer .ensures),
+    )
+
+same-length : tie.Need-same-length Inv-loop μ-loop
+same-length c = c .before .loop .inv .1
+
+same-length-2 : tie.Need-same-length-2 Inv-loop μ-loop
+same-length-2 c = c .before .loop .inv .2
+
+returns : tie.Need-returns Inv-loop μ-loop
+returns c =
+    offer-end _ _ _ (omega (arith, c .before .loop .inv .0, c .loop-test .left)) (c .before .loop .inv .3)
+
+pub offer-all-spec : {M : Type 1} → statement M
+offer-all-spec =
+    tie.close
+    (tie.spec
+    Inv-loop
+    μ-loop
+    loop-holds
+    arrival-requires
+    number-of-requires
+    offer-sound-requires
+    add-put-offer
+    add-put-offer-2
+    cast-put-offer
+    offer-number-requires
+    serial-given-requires
+    put-offer-requires
+    add-i
+    loop-less
+    loop-again
+    same-length
+    same-length-2
+    returns)

@@ -1,0 +1,85 @@
+-- `whole_run::slots::run_slot`: the stretch, its offers, the step and its line.
+use native.Mathlib.Omega.{arith}
+use Rattle.words.specs.Contents.{contents}
+use Rattle.words.proofs.Counts.{sound-fitting}
+use Rattle.whole_run.proofs.SlotRun.{due-few, offers-room, step-room, slot-runs}
+use borrow.Author.Needs.{needs}
+use Rattle.whole_run.proofs.slots.run_slot.Statement.{statement}
+use Rattle.whole_run.proofs.slots.run_slot.Tie as tie
+
+counter-requires : tie.Need-counter-requires
+counter-requires c κs = sound-fitting _ (c .before .before .before .before .before .pre .0 .0)
+
+stretch-requires : tie.Need-stretch-requires
+stretch-requires c κs = search needs
+
+offer-all-requires : tie.Need-offer-all-requires
+offer-all-requires c κs =
+    let s = c .before .before .before .before .before .before .before .before .before in
+    let a = s .args in
+    let p = s .pre .0 in
+    let stretch = c .before .before .stretch in
+    let counter = c .before .before .before .counter in
+    let few = due-few (a .numbers .now) (a .table .now) (contents (a .ws .now)) (a .passed) (p .1) (p .2) (stretch .result .now) (counter .result) (stretch .ensures) (counter .ensures) in
+    ((p .0, omega (arith, few)), offers-room (a .numbers .now) (a .table .now) (contents (a .ws .now)) (a .passed) (p .1) (p .2) (stretch .result .now) (counter .result) (stretch .ensures) (counter .ensures) (a .out .now) (a .start) (s .pre .1))
+
+step-sound-requires : tie.Need-step-sound-requires
+step-sound-requires c κs = search needs
+
+print-stepped-requires : tie.Need-print-stepped-requires
+print-stepped-requires c κs =
+    let s = c .before .before .before .before .before .before .before .before .before .before .before .before .before .before .before .before .before .before .before in
+    let a = s .args in
+    let p = s .pre .0 in
+    let stretch = c .before .before .before .before .before .before .before .before .before .before .before .before .stretch in
+    let counter = c .before .before .before .before .before .before .before .before .before .before .before .before .before .counter in
+    (p .3, step-room (a .numbers .now) (a .table .now) (contents (a .ws .now)) (a .passed) (p .1) (p .2) (stretch .result .now) (counter .result) (stretch .ensures) (counter .ensures) (a .out .now) (a .start) (s .pre .1) (c .before .before .before .before .before .before .before .before .before .offer-all .ensures) (c .before .before .before .step-sound .result) (c .before .before .before .step-sound .ensures .0))
+
+add-t24 : tie.Need-add-t24
+add-t24 c =
+    let s = c .before .before .before .before .before .before .before .before .before .before .before .before .before .before .before .before .before .before .before .before .before .before in
+    let a = s .args in
+    let p = s .pre .0 in
+    let stretch = c .before .before .before .before .before .before .before .before .before .before .before .before .before .before .before .stretch in
+    let counter = c .before .before .before .before .before .before .before .before .before .before .before .before .before .before .before .before .counter in
+    let few = due-few (a .numbers .now) (a .table .now) (contents (a .ws .now)) (a .passed) (p .1) (p .2) (stretch .result .now) (counter .result) (stretch .ensures) (counter .ensures) in
+    omega (arith, few)
+
+step-number-requires : tie.Need-step-number-requires
+step-number-requires c κs = search needs
+
+departed-by-requires : tie.Need-departed-by-requires
+departed-by-requires c κs = search needs
+
+same-length : tie.Need-same-length
+same-length c = search needs
+
+same-length-2 : tie.Need-same-length-2
+same-length-2 c = search needs
+
+returns : tie.Need-returns
+returns c =
+    let s = c .before .before .before .before .before .before .before .before .before .before .before .before .before .before .before .before .before .before .before .before .before .before .before .before in
+    let a = s .args in
+    let p = s .pre .0 in
+    let stretch = c .before .before .before .before .before .before .before .before .before .before .before .before .before .before .before .before .before .stretch in
+    let counter = c .before .before .before .before .before .before .before .before .before .before .before .before .before .before .before .before .before .before .counter in
+    let step = c .before .before .before .before .before .before .before .before .step-sound in
+    slot-runs (a .numbers .now) (a .table .now) (contents (a .ws .now)) (a .passed) (p .1) (p .2) (stretch .result .now) (counter .result) (stretch .ensures) (counter .ensures) (a .out .now) (a .start) (s .pre .1) (c .before .before .before .before .before .before .before .before .before .before .before .before .before .before .offer-all .ensures) (step .result) (step .ensures .0) (c .before .step-number .result) (c .departed-by .result)
+    (step .ensures .1) (c .before .before .before .before .print-stepped .ensures) (c .before .step-number .ensures) (c .departed-by .ensures)
+
+pub run-slot-spec : {M : Type 1} → statement M
+run-slot-spec =
+    tie.close
+    (tie.spec
+    counter-requires
+    stretch-requires
+    offer-all-requires
+    step-sound-requires
+    print-stepped-requires
+    add-t24
+    step-number-requires
+    departed-by-requires
+    same-length
+    same-length-2
+    returns)

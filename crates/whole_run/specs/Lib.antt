@@ -1,0 +1,3 @@
+-- What the contracts of a whole run cite.
+pub mod Parts
+pub mod Printing

@@ -1,0 +1,50 @@
+// "admits in file order".
+use super::answers::admission_number;
+use super::answers::failing_t;
+use super::answers::number_given;
+use admission::Asked;
+use lines::put_admit;
+use multiplexer::admitting::admit_sound;
+use plan::tables::connection;
+ghost use Prim.Native.Nat.{_+_, _/_, _≤_};
+ghost use mathlib.Core.Path.{_≡_};
+ghost use mathlib.Core.Bool.{true};
+ghost use lib.ListN.{length};
+ghost use Rattle.words.specs.Contents.{contents};
+ghost use Rattle.words.specs.Sound.{soundWords};
+ghost use Rattle.lines.specs.Put.{Room};
+ghost use Rattle.whole_run.specs.Parts.{admissionsOf, Admits};
+ghost use Rattle.meaning.proofs.TextMost.{textOf};
+
+// The lines of the admissions, and the number of each place of the file, 0 for one that was refused.
+pub fn admit_all(ws: &mut [u32], table: &[u8], numbers: &mut [u32], out: &mut [u8]) -> usize
+    requires { ⌜ (soundWords (now ws) ≡ true) × (length (now table) / 16 ≤ length (now numbers)) × (length (now numbers) ≤ 32) ⌝ }
+    requires { ⌜ Room (now out) 0 (textOf (admissionsOf (now table) (contents (now ws)) .lines)) ⌝ }
+    ensures { λ r. ⌜ Admits (admissionsOf (now (table .entry)) (contents (now (ws .entry)))) (length (now (table .entry)) / 16) (now (ws .exit)) (now (numbers .exit)) (now (out .entry)) (now (out .exit)) r ⌝ }
+{
+    let count = table.len() / 16;
+    let mut at: usize = 0;
+    let mut i: usize = 0;
+    while i < count {
+        let c = connection(table, i);
+        let answer = admit_sound(
+            ws,
+            Asked {
+                class: c.class,
+                longest: c.longest,
+                burst: c.burst,
+                period: c.period,
+            },
+        );
+        at = put_admit(
+            out,
+            at,
+            (i + 1) as u32,
+            admission_number(answer),
+            failing_t(answer),
+        );
+        numbers[i] = number_given(answer);
+        i += 1;
+    }
+    at
+}

@@ -1,0 +1,139 @@
+// "then for each slot offers that slot's arrivals and steps, until no arrivals remain and the box is empty, which is tested before each
+// slot". The box was opened here, so it is sound: no slot tests it again.
+use super::answers::departed_by;
+use super::answers::step_number;
+use super::offers::offer_all;
+use super::places::place_of;
+use lines::put_depart;
+use lines::put_end;
+use lines::put_stop;
+use meaning::Stepped;
+use multiplexer::stepping::step_sound;
+use plan::tables::stretch;
+use words::parts::accepted;
+use words::parts::counter;
+use words::parts::read_link;
+use words::parts::waiting_count;
+ghost use Prim.Native.Nat.{_/_, _≤_};
+ghost use mathlib.Core.Path.{_≡_};
+ghost use mathlib.Core.Bool.{true};
+ghost use lib.Dec.{eqb};
+ghost use lib.ListN.{length};
+ghost use Rattle.meaning.specs.Box.{packets};
+ghost use Rattle.meaning.specs.Run.{departures, finished};
+ghost use Rattle.words.specs.Contents.{contents};
+ghost use Rattle.words.specs.Sound.{soundWords};
+ghost use Rattle.lines.specs.Put.{Room, Put};
+ghost use Rattle.whole_run.specs.Parts.{arrivalsPlaced, slotOf, linesOfSlot, restOfRun, Walked, Sorted, RunsSlot};
+ghost use Rattle.meaning.proofs.TextMost.{textOf};
+
+// The line of a step, if it has one: that of a departure.
+fn print_stepped(out: &mut [u8], at: usize, numbers: &[u32], answer: Stepped) -> usize
+    requires { ⌜ (length (now numbers) ≤ 32) × Room (now out) at (textOf (departures (now numbers) answer)) ⌝ }
+    ensures { λ r. ⌜ Put (now (out .entry)) (now (out .exit)) at (textOf (departures (now (numbers .entry)) answer)) r ⌝ }
+{
+    match answer {
+        Stepped::Departed {
+            serial,
+            connection,
+            arrival,
+            departure,
+        } => put_depart(
+            out,
+            at,
+            serial,
+            place_of(numbers, connection),
+            arrival,
+            departure,
+        ),
+        Stepped::Idle => at,
+        Stepped::Sending { .. } => at,
+        Stepped::NotSound => at,
+        Stepped::CounterEnded => at,
+        Stepped::TurnBlocked => at,
+    }
+}
+
+// "the box is empty".
+fn is_empty(ws: &[u32]) -> bool
+    requires { ⌜ soundWords (now ws) ≡ true ⌝ }
+    ensures { λ r. ⌜ r ≡ eqb (length (packets (contents (now (ws .entry))))) 0 ⌝ }
+{
+    let link = read_link(ws);
+    if link.left != 0 {
+        return false;
+    }
+    waiting_count(ws) == 0
+}
+
+// "no arrivals remain and the box is empty"; the arrivals before the slot are passed.
+fn is_finished(ws: &[u32], table: &[u8], passed: usize) -> bool
+    requires { ⌜ (soundWords (now ws) ≡ true) × Walked (now table) (contents (now ws)) passed ⌝ }
+    ensures { λ r. ⌜ r ≡ finished (arrivalsPlaced (now (table .entry))) (contents (now (ws .entry))) ⌝ }
+{
+    if passed < table.len() / 12 {
+        return false;
+    }
+    is_empty(ws)
+}
+
+// What a slot leaves: where the text stands, the arrivals that are passed, the number of the step's answer, and its departures.
+struct Slot {
+    at: usize,
+    passed: usize,
+    answer: u32,
+    departed: u32,
+}
+
+// One slot: its offers and its step.
+fn run_slot(
+    ws: &mut [u32],
+    table: &[u8],
+    passed: usize,
+    numbers: &[u32],
+    out: &mut [u8],
+    start: usize,
+) -> Slot
+    requires { ⌜ (soundWords (now ws) ≡ true) × Walked (now table) (contents (now ws)) passed × Sorted (now table) × (length (now numbers) ≤ 32) ⌝ }
+    requires { ⌜ Room (now out) start (textOf (linesOfSlot (now numbers) (now table) (contents (now ws)))) ⌝ }
+    ensures { λ r. ⌜ RunsSlot (slotOf r) (now (numbers .entry)) (now (table .entry)) (contents (now (ws .entry))) (now (ws .exit)) (now (out .entry)) (now (out .exit)) start ⌝ }
+{
+    let slot = counter(ws);
+    let due = stretch(table, passed, slot);
+    let offered = offer_all(ws, due, passed, numbers, out, start);
+    let answer = step_sound(ws);
+    let at = print_stepped(out, offered, numbers, answer);
+    Slot {
+        at,
+        passed: passed + due.len() / 12,
+        answer: step_number(answer),
+        departed: departed_by(answer),
+    }
+}
+
+// The slots of a run, from the box on that the admissions left.
+pub fn run_slots(
+    ws: &mut [u32],
+    table: &[u8],
+    numbers: &[u32],
+    out: &mut [u8],
+    start: usize,
+) -> usize
+    requires { ⌜ (soundWords (now ws) ≡ true) × (contents (now ws) .counter ≡ 0) × Sorted (now table) × (length (now numbers) ≤ 32) ⌝ }
+    requires { ⌜ Room (now out) start (textOf (restOfRun (now numbers) (now table) (contents (now ws)))) ⌝ }
+    ensures { λ r. ⌜ Put (now (out .entry)) (now (out .exit)) start (textOf (restOfRun (now (numbers .entry)) (now (table .entry)) (contents (now (ws .entry))))) r ⌝ }
+{
+    let mut at = start;
+    let mut passed: usize = 0;
+    let mut departed: u32 = 0;
+    while !is_finished(ws, table, passed) {
+        let slot = run_slot(ws, table, passed, numbers, out, at);
+        at = slot.at;
+        if slot.answer != 0 {
+            return put_stop(out, at, slot.answer);
+        }
+        passed = slot.passed;
+        departed += slot.departed;
+    }
+    put_end(out, at, counter(ws), accepted(ws), departed)
+}
