@@ -47,7 +47,7 @@ PLANS = [
     ("spread", "4,096 arrivals up to slot 1,000,000", lambda: bytes_of_plan(spread())),
     ("idle", "2 arrivals, at 0 and 1,000,000", lambda: bytes_of_plan(idle())),
     ("busy", "4,096 arrivals within 3,649 slots", lambda: bytes_of_plan(busy())),
-    ("none", "no plan: a process alone", lambda: b""),
+    ("none", "empty input, a process alone", lambda: b""),
 ]
 
 
