@@ -1,9 +1,10 @@
 /* A step and an offer, proved and in plain C, in one run, turn by turn: sixteen calls one after another from an idle box, and from one in
    which 100 or 1,000 packets wait. Prints the shortest turn of each for one call in nanoseconds, their ratio, and the share of the test of
-   soundness, which is measured by itself on the same words. */
+   soundness, which is measured by itself on the same words. Then steps of the idle box early, in the middle and at the end of the counter's
+   range, to see that their time does not depend on the counter. */
 #include "plain_box.h"
 
-enum { CALLS = 16 };
+enum { CALLS = 16, TURNS = 5000, COUNTER = 204 };
 
 static uint32_t before[WORDS], ws[WORDS], other[WORDS];
 
@@ -42,7 +43,7 @@ static void measure(numbered *a, numbered *b, double shortest[2])
 static void report(uint32_t waiting)
 {
     double step[2] = {1e18, 1e18}, offer[2] = {1e18, 1e18}, sound[2] = {1e18, 1e18};
-    for (int i = 0; i < 5000; i++) {
+    for (int i = 0; i < TURNS; i++) {
         measure(proved_step, plain_steps, step);
         measure(proved_offer, plain_offers, offer);
         measure(proved_sound, plain_sounds, sound);
@@ -53,16 +54,40 @@ static void report(uint32_t waiting)
     printf("%.0f%% of the proved step, %.0f%% of the proved offer\n", 100 * sound[0] / step[0], 100 * sound[0] / offer[0]);
 }
 
+/* A box in which 16 connections stand and nothing waits, their allowances full: it is sound whatever its counter. */
+static void idle_box(void)
+{
+    static const uint32_t factors[1] = {4};
+    must(box_open(before, WORDS, 256, 4096, factors, 1) == 0, "no box");
+    for (uint32_t i = 0; i < 16; i++)
+        must(box_admit(before, WORDS, 1, 1, 64, 4096) == 0, "a connection is refused");
+}
+
+/* The counters take turns, so that what else the machine does falls on all of them. */
+static void report_counters(void)
+{
+    static const uint32_t counters[3] = {0, 1000000, 3999999000};
+    double step[3][2] = {{1e18, 1e18}, {1e18, 1e18}, {1e18, 1e18}};
+    idle_box();
+    for (int i = 0; i < TURNS; i++)
+        for (int k = 0; k < 3; k++) {
+            before[COUNTER] = counters[k];
+            measure(proved_step, plain_steps, step[k]);
+        }
+    for (int k = 0; k < 3; k++)
+        printf("  idle at counter %10u: step proved %.0f ns, plain C %.0f ns, ratio %.2f\n", counters[k], step[k][0], step[k][1],
+               step[k][0] / step[k][1]);
+}
+
 int main(void)
 {
-    static const uint32_t factors[1] = {4}, waiting[3] = {0, 100, 1000};
+    static const uint32_t waiting[3] = {0, 100, 1000};
     for (int k = 0; k < 3; k++) {
-        must(box_open(before, WORDS, 256, 4096, factors, 1) == 0, "no box");
-        for (uint32_t i = 0; i < 16; i++)
-            must(box_admit(before, WORDS, 1, 1, 64, 4096) == 0, "a connection is refused");
+        idle_box();
         for (uint32_t i = 0; i < waiting[k]; i++)
             must(box_offer(before, WORDS, 1 + i % 16, 1) == 0, "an offer is refused");
         report(waiting[k]);
     }
+    report_counters();
     return 0;
 }
