@@ -8,7 +8,6 @@ use multiplexer::offering::offer;
 use multiplexer::stepping::step;
 use words::opening::open;
 use words::soundness::is_sound;
-ghost use mathlib.Core.Path.{_≡_};
 ghost use Rattle.cabinet.specs.Promises.{BoxWordsPromise, OpenPromise, SoundPromise, AdmitPromise, OfferPromise, StepPromise};
 
 // "A box takes one fixed number of words".

@@ -8,7 +8,6 @@ use plan::tables::factor;
 use plan::tables::first_from;
 use plan::tables::stretch;
 use plan::writing::write;
-ghost use mathlib.Core.Path.{_≡_};
 ghost use Rattle.plan.specs.Written.{lent};
 ghost use Rattle.cabinet.specs.Promises.{ReadPromise, FactorPromise, ConnectionPromise, ArrivalPromise, StretchPromise, WritePromise};
 
