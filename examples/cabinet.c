@@ -100,9 +100,11 @@ static void offer_arrivals(uint32_t slot)
             continue;
         answer = zeppilorn_offer(words, ZEPPILORN_BOX_WORDS, connections[a->board], a->units, fields);
         if (answer == DONE)
-            printf("slot %u: %s, length %u: packet %u\n", (unsigned)slot, boards[a->board].name, (unsigned)a->units, (unsigned)fields[0]);
+            printf("slot %u: %s, length %u: packet %u\n", (unsigned)slot, boards[a->board].name, (unsigned)a->units,
+                   (unsigned)fields[0]);
         else if (answer == WRONG_LENGTH || answer == NOT_FITTING || answer == STORE_FULL)
-            printf("slot %u: %s, length %u: turned away with %u\n", (unsigned)slot, boards[a->board].name, (unsigned)a->units, (unsigned)answer);
+            printf("slot %u: %s, length %u: turned away with %u\n", (unsigned)slot, boards[a->board].name, (unsigned)a->units,
+                   (unsigned)answer);
         else
             stop("an offer", answer);
     }
@@ -121,8 +123,8 @@ static void step(uint32_t slot)
     else if (fields[1] != 0)
         printf("slot %u: packet %u, units left %u\n", (unsigned)slot, (unsigned)fields[0], (unsigned)fields[1]);
     else
-        printf("slot %u: packet %u of connection %u departs at %u, it came at %u\n", (unsigned)slot, (unsigned)fields[0], (unsigned)fields[2],
-               (unsigned)fields[4], (unsigned)fields[3]);
+        printf("slot %u: packet %u of connection %u departs at %u, it came at %u\n", (unsigned)slot, (unsigned)fields[0],
+               (unsigned)fields[2], (unsigned)fields[4], (unsigned)fields[3]);
 }
 
 int main(void)

@@ -33,7 +33,7 @@
 /* The words that a box takes; words beyond them are never altered. */
 #define ZEPPILORN_BOX_WORDS 4371
 
-/* The most bytes that the text of a whole run has. */
+/* The most bytes that the text of a whole run has, for a call of the whole run on a plan. */
 #define ZEPPILORN_TEXT_BYTES 420000
 
 #ifdef __cplusplus
@@ -48,7 +48,8 @@ size_t zeppilorn_box_words(void);
  * with rising factors of 1 to 63; class p has the bound factors[p - 1] x D, at most 1,024 slots.
  * Answers 0, 2 or 17.
  */
-uint32_t zeppilorn_open(uint32_t *words, size_t count, uint32_t interval, uint32_t cycle, const uint32_t *factors, size_t classes);
+uint32_t zeppilorn_open(uint32_t *words, size_t count, uint32_t interval, uint32_t cycle,
+                        const uint32_t *factors, size_t classes);
 
 /* Tests `words`: 0 where they are a sound state, else 1. The calls below make this test themselves. */
 uint32_t zeppilorn_is_sound(const uint32_t *words, size_t count);
@@ -59,7 +60,8 @@ uint32_t zeppilorn_is_sound(const uint32_t *words, size_t count);
  * Answers 0, 1, 3, 4, 5 or 6.
  * fields[0]: the connection's number, counted from 1. fields[1]: for 6, the first t at which the test fails.
  */
-uint32_t zeppilorn_admit(uint32_t *words, size_t count, uint32_t class_number, uint32_t longest, uint32_t burst, uint32_t period, uint32_t fields[2]);
+uint32_t zeppilorn_admit(uint32_t *words, size_t count, uint32_t class_number, uint32_t longest, uint32_t burst, uint32_t period,
+                         uint32_t fields[2]);
 
 /*
  * Offers a packet of `units` units of a connection, by its number, at the slot that the box stands at. A refused packet is not charged.
@@ -70,7 +72,7 @@ uint32_t zeppilorn_offer(uint32_t *words, size_t count, uint32_t connection, uin
 
 /*
  * One step: sends one unit, if there is one to send, and raises the slot counter by one. Offers of a slot come before its step.
- * Answers 0, 1, 12 or 11. A box that was opened and then only had these calls never answers 1 or 11.
+ * Answers 0, 1, 12 or 11. A box that was opened, has had only these calls since and is lent whole never answers 1 or 11.
  * fields[0]: the serial of the packet on the link; 0: the link was idle.
  * fields[1]: its units left; 0: that was its last unit, it has departed, and the three fields that follow are set.
  * fields[2]: its connection. fields[3]: the slot of its arrival. fields[4]: the slot of its departure.
@@ -99,8 +101,8 @@ uint32_t zeppilorn_connection(const uint8_t *connections, size_t size, size_t pl
 uint32_t zeppilorn_arrival(const uint8_t *arrivals, size_t size, size_t place, uint32_t fields[3]);
 
 /*
- * The arrivals of one slot, as a stretch of the arrival table; entries before the place `from` are passed over. Who walks the slots in order
- * starts with 0 and adds fields[1] / 12 to `from` each time. The stretch can be lent to zeppilorn_arrival as `arrivals` + fields[0].
+ * The arrivals of one slot, as a stretch of the arrival table; entries before the place `from` are passed over. Who walks the slots in
+ * order starts with 0 and adds fields[1] / 12 to `from` each time. The stretch can be lent to zeppilorn_arrival as `arrivals` + fields[0].
  * Always answers 0.
  * fields[0]: the first byte of the stretch within the table. fields[1]: its size in bytes. Both are 0 where it is empty.
  */
@@ -112,7 +114,9 @@ uint32_t zeppilorn_slot_arrivals(const uint8_t *arrivals, size_t size, size_t fr
  * Answers 0, 15 (also where a table does not hold whole entries), 16 or 17.
  * fields[0]: the bytes written.
  */
-uint32_t zeppilorn_write_plan(uint32_t interval, uint32_t cycle, const uint32_t *factors, size_t classes, const uint32_t *connections, size_t connection_words, const uint32_t *arrivals, size_t arrival_words, uint8_t *plan, size_t size, uint32_t fields[1]);
+uint32_t zeppilorn_write_plan(uint32_t interval, uint32_t cycle, const uint32_t *factors, size_t classes,
+                              const uint32_t *connections, size_t connection_words, const uint32_t *arrivals, size_t arrival_words,
+                              uint8_t *plan, size_t size, uint32_t fields[1]);
 
 #ifdef __cplusplus
 }

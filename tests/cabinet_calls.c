@@ -14,7 +14,8 @@ static uint32_t words[N + 1];
 static const uint32_t factors[] = {1, 2};
 static const uint32_t connections[] = {1, 1, 1, 4, 2, 3, 1, 8};
 static const uint32_t arrivals[] = {0, 2, 3, 1, 1, 1, 2, 1, 1, 5, 1, 1, 8, 2, 2};
-static const uint32_t plan_words[] = {140, 4, 8, 2, 40, 2, 48, 5, 80, 4294966912u, 1, 2, 1, 1, 1, 4, 2, 3, 1, 8, 0, 2, 3, 1, 1, 1, 2, 1, 1, 5, 1, 1, 8, 2, 2};
+static const uint32_t plan_words[] = {140, 4, 8, 2, 40, 2, 48, 5, 80, 4294966912u, 1, 2, 1, 1, 1, 4, 2, 3, 1, 8,
+                                      0, 2, 3, 1, 1, 1, 2, 1, 1, 5, 1, 1, 8, 2, 2};
 
 /* A result and its fields are those expected. */
 static void expect(const char *call, uint32_t answer, uint32_t expected, const uint32_t *fields, const uint32_t *values, size_t n)
@@ -81,7 +82,8 @@ static void expect_stretch(const uint8_t *table, size_t from, uint32_t slot, siz
     uint32_t answer = zeppilorn_slot_arrivals(table, 60, from, slot, fields);
 
     if (answer != 0 || fields[0] != first || fields[1] != size) {
-        fprintf(stderr, "zeppilorn_slot_arrivals from %u, slot %u: %u, %u, %u\n", (unsigned)from, (unsigned)slot, (unsigned)answer, (unsigned)fields[0], (unsigned)fields[1]);
+        fprintf(stderr, "zeppilorn_slot_arrivals from %u, slot %u: %u, %u, %u\n", (unsigned)from, (unsigned)slot, (unsigned)answer,
+                (unsigned)fields[0], (unsigned)fields[1]);
         exit(1);
     }
 }

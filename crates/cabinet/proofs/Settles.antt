@@ -2,7 +2,7 @@
 -- memories that satisfy its promise at the same entry are the same.
 use Prim.Native.Nat.{ℕ}
 use mathlib.Core.Path.{_≡_, sym, _∙_}
-use mathlib.Core.List.{List, []}
+use mathlib.Core.List.{List}
 use Rattle.meaning.specs.Answers.{Answer}
 use Rattle.meaning.specs.Numbers.{Connection}
 use Rattle.meaning.specs.Plan.{Lent}

@@ -53,7 +53,8 @@ pub extern "C" fn zeppilorn_arrival(arrivals: &[u8], place: usize, fields: &mut 
     0
 }
 
-// The arrivals of one slot, from the entry numbered `from` on: the first byte and the size of their stretch of the table; 0 and 0 where it is empty.
+// "The arrivals of one slot are handed back as a stretch of the caller's own bytes": its first byte within the table and its size; 0 and 0
+// where it is empty. Entries before the one numbered `from` are passed over.
 #[no_mangle]
 pub extern "C" fn zeppilorn_slot_arrivals(
     arrivals: &[u8],

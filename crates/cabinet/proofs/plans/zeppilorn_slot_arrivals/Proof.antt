@@ -6,7 +6,7 @@ use native.Mathlib.Omega.{arith}
 use borrow.Author.Needs.{needs}
 use lib.ListN.{length}
 use Rattle.plan.specs.Parts.{stretchStart}
-use Rattle.cabinet.specs.Places.{stretchFirst, stretchSize}
+use Rattle.cabinet.specs.Places.{stretchSize}
 use Rattle.cabinet.proofs.Stretches.{stretch-lies, first-of-some, first-of-none}
 use Rattle.cabinet.proofs.plans.zeppilorn_slot_arrivals.Statement.{statement}
 use Rattle.cabinet.proofs.plans.zeppilorn_slot_arrivals.Tie as tie
