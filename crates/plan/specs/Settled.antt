@@ -9,7 +9,7 @@ use Rattle.meaning.specs.declared.PlanWritten.{PlanWritten}
 use Rattle.meaning.specs.Plan.{Lent, wordsOf, factorAt, connectionAt, arrivalAt, readingAnswer, writingAnswer}
 use Rattle.plan.specs.declared.tables.ConnectionEntry.{ConnectionEntry}
 use Rattle.plan.specs.declared.tables.ArrivalEntry.{ArrivalEntry}
-use Rattle.plan.specs.Parts.{partOf, connectionOf, arrivalOf, stretchOf}
+use Rattle.plan.specs.Parts.{partOf, connectionOf, arrivalOf, arrivalsIn, boundary, stretchOf}
 use Rattle.plan.specs.Written.{bytesAfter}
 
 -- what both answers equal settles them
@@ -36,6 +36,10 @@ pub arrival-settled :
     (bytes : List ℕ) (i : ℕ) (r s : ArrivalEntry) → arrivalOf r ≡ arrivalAt (wordsOf bytes) i → arrivalOf s ≡ arrivalAt (wordsOf bytes) i → r ≡ s
 unfolding arrivalOf
 arrival-settled bytes i r s p q = ap (λ a. record { slot = a .slot; place = a .place; units = a .units }) (one p q)
+
+pub first-from-settled :
+    (bytes : List ℕ) (from limit r s : ℕ) → r ≡ boundary (arrivalsIn bytes) from limit → s ≡ boundary (arrivalsIn bytes) from limit → r ≡ s
+first-from-settled bytes from limit r s = one
 
 pub stretch-settled : (bytes : List ℕ) (from slot : ℕ) (r s : List ℕ) → r ≡ stretchOf bytes from slot → s ≡ stretchOf bytes from slot → r ≡ s
 stretch-settled bytes from slot r s = one

@@ -110,7 +110,7 @@ pub fn arrival(arrivals: &[u8], i: usize) -> ArrivalEntry
 }
 
 // The first entry, from the one numbered `from` on, whose slot is `limit` or more; where there is none, the number of entries.
-fn first_from(arrivals: &[u8], from: usize, limit: u64) -> usize
+pub fn first_from(arrivals: &[u8], from: usize, limit: u64) -> usize
     ensures { λ r. ⌜ r ≡ boundary (arrivalsIn (now (arrivals .entry))) from limit ⌝ }
 {
     let count = arrivals.len() / 12;

@@ -1,0 +1,54 @@
+-- The numbers of a plan that are counted in bytes or entries fit words: "Counts: at most 8, 32 and 4,096".
+use Prim.Native.Nat.{ℕ, zero, suc, _^_, _<_}
+use mathlib.Core.Path.{_≡_, sym}
+use mathlib.Core.List.{List, [], _∷_}
+use native.Mathlib.Omega.{arith}
+use lib.ListN.{length, getD, drop, replicate}
+use Rattle.meaning.specs.declared.PlanRead.{PlanRead}
+use Rattle.meaning.specs.declared.PlanWritten.{PlanWritten}
+use Rattle.meaning.specs.Answers.{planRead, planWritten, refusal}
+use Rattle.meaning.specs.Plan.{Lent, lentWrong, readingAnswer, writingAnswer}
+use Rattle.plan.specs.Good.{read-facts}
+use Rattle.plan.specs.Calls.{write-facts}
+use Rattle.plan.specs.Written.{lengthsWrong}
+use Rattle.plan.specs.Writing.{lengths-facts, size-of-lent}
+use Rattle.cabinet.specs.Told.{FitWords}
+
+none : FitWords []
+none = record { fits = λ i. omega arith }
+
+more : {n : ℕ} {l : List ℕ} → n < 2 ^ 32 → FitWords l → FitWords (n ∷ l)
+more {n} {l} h f = record { fits = at }
+  where
+    at : (i : ℕ) → getD (n ∷ l) i 0 < 2 ^ 32
+    at zero = h
+    at (suc i) = f .fits i
+
+-- a refusal's fields are 0
+zeros : (n : ℕ) → FitWords (replicate n 0)
+zeros zero = none
+zeros (suc n) = more (omega arith) (zeros n)
+
+-- the counts and offsets of a plan that was read
+pub read-fits : (bytes : List ℕ) (r : PlanRead) → r ≡ readingAnswer bytes → FitWords (drop 2 (planRead r .fields))
+unfolding planRead refusal
+read-fits bytes (PlanRead.Good h) e =
+    let l = read-facts bytes h (sym e) .laid in
+    more (omega arith) (more (omega arith) (more (omega arith) (more (omega arith) (more (omega arith) (more (omega arith) none)))))
+read-fits bytes PlanRead.WrongSize e = zeros 6
+read-fits bytes PlanRead.WrongSum e = zeros 6
+read-fits bytes PlanRead.WrongLayout e = zeros 6
+read-fits bytes PlanRead.WrongSlots e = zeros 6
+
+-- the size of a plan that was written
+pub write-fits : (l : Lent) (buf : List ℕ) (r : PlanWritten) → r ≡ writingAnswer l (length buf) → FitWords (planWritten r .fields)
+unfolding planWritten refusal lentWrong lengthsWrong
+write-fits l buf (PlanWritten.Written size) e =
+    let t = write-facts l buf size (sym e) in
+    let w = lengths-facts (length (l .factors)) (length (l .connections)) (length (l .arrivals)) (t .right) in
+    let s = size-of-lent (l .interval) (l .cycle) (l .factors) (l .connections) (l .arrivals) w in
+    let d = t .size-is in
+    more (omega arith) none
+write-fits l buf PlanWritten.WrongLayout e = zeros 1
+write-fits l buf PlanWritten.WrongSlots e = zeros 1
+write-fits l buf PlanWritten.TooShort e = zeros 1
