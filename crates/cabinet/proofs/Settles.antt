@@ -7,7 +7,7 @@ use Rattle.meaning.specs.Answers.{Answer}
 use Rattle.meaning.specs.Numbers.{Connection}
 use Rattle.meaning.specs.Plan.{Lent}
 use Rattle.cabinet.specs.Told.{Told}
-use Rattle.cabinet.specs.Promises.{BoxWordsPromise, OpenPromise, SoundPromise, AdmitPromise, OfferPromise, StepPromise, ReadPromise, FactorPromise, ConnectionPromise, ArrivalPromise, StretchPromise, WritePromise}
+use Rattle.cabinet.specs.Promises.{BoxWordsPromise, OpenPromise, SoundPromise, AdmitPromise, OfferPromise, StepPromise, ReadPromise, FactorPromise, ConnectionPromise, ArrivalPromise, StretchPromise, WritePromise, RunPromise}
 
 -- What both equal settles them.
 one : {A : Type 0} {a b c : A} → a ≡ c → b ≡ c → a ≡ b
@@ -67,3 +67,7 @@ slot-arrivals-settles arrivals from slot r s f g = told
 pub write-plan-settles : (l : Lent) (entry : List ℕ) (r s : ℕ) (f g after left : List ℕ) →
     WritePromise l entry r f after → WritePromise l entry s g left → (r ≡ s) × (f ≡ g) × (after ≡ left)
 write-plan-settles l entry r s f g after left = called
+
+pub run-plan-settles : (plan entry : List ℕ) (r s : ℕ) (f g after left : List ℕ) →
+    RunPromise plan entry r f after → RunPromise plan entry s g left → (r ≡ s) × (f ≡ g) × (after ≡ left)
+run-plan-settles plan entry r s f g after left = called

@@ -1,8 +1,10 @@
--- The numbers of a plan that are counted in bytes or entries fit words: "Counts: at most 8, 32 and 4,096".
+-- The numbers of a plan and of a text that are counted in bytes or entries fit words: "Counts: at most 8, 32 and 4,096".
 use Prim.Native.Nat.{ℕ, zero, suc, _^_, _<_}
-use mathlib.Core.Path.{_≡_, sym}
+use mathlib.Core.Path.{_≡_, sym, ap, subst, _∙_}
+use mathlib.Core.Bool.{Bool, true, false, cond}
 use mathlib.Core.List.{List, [], _∷_}
 use native.Mathlib.Omega.{arith}
+use lib.Dec.{ltb}
 use lib.ListN.{length, getD, drop, replicate}
 use Rattle.meaning.specs.declared.PlanRead.{PlanRead}
 use Rattle.meaning.specs.declared.PlanWritten.{PlanWritten}
@@ -12,6 +14,10 @@ use Rattle.plan.specs.Good.{read-facts}
 use Rattle.plan.specs.Calls.{write-facts}
 use Rattle.plan.specs.Written.{lengthsWrong}
 use Rattle.plan.specs.Writing.{lengths-facts, size-of-lent}
+use Rattle.meaning.specs.Lines.{runText}
+use Rattle.meaning.proofs.RunFits.{textMost, run-fits}
+use Rattle.whole_run.specs.declared.running.Printed.{Printed}
+use Rattle.whole_run.specs.Printing.{printed, printingAnswer}
 use Rattle.cabinet.specs.Told.{FitWords}
 
 none : FitWords []
@@ -52,3 +58,12 @@ write-fits l buf (PlanWritten.Written size) e =
 write-fits l buf PlanWritten.WrongLayout e = zeros 1
 write-fits l buf PlanWritten.WrongSlots e = zeros 1
 write-fits l buf PlanWritten.TooShort e = zeros 1
+
+-- the size of a text that was printed
+pub run-fits-word : (plan : List ℕ) (room : ℕ) (r : Printed) → r ≡ printingAnswer plan room → FitWords (printed r .fields)
+unfolding printed refusal printingAnswer
+run-fits-word plan room r e = subst (λ (a : Printed). FitWords (printed a .fields)) (sym e) (go (ltb room textMost))
+  where
+    go : (b : Bool) → FitWords (printed (cond b Printed.TooShort (Printed.Written (length (runText plan)))) .fields)
+    go true = unfold printed in unfold refusal in zeros 1
+    go false = unfold printed in (let f = run-fits plan in more (omega arith) none)

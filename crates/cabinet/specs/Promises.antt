@@ -13,6 +13,7 @@ use Rattle.words.specs.Opening
 use Rattle.words.specs.Sound.{soundWords}
 use Rattle.multiplexer.specs.Promised.{admission, wordsAdmitted, offering, wordsOffered, stepping, wordsStepped}
 use Rattle.plan.specs.Written.{bytesAfter}
+use Rattle.whole_run.specs.Printing.{printed, printingAnswer, textAfter}
 use Rattle.cabinet.specs.Told.{Told, success}
 use Rattle.cabinet.specs.Places.{stretchFirst, stretchSize}
 
@@ -67,3 +68,7 @@ StretchPromise arrivals from slot r fields =
 abbrev pub WritePromise : Lent → List ℕ → ℕ → List ℕ → List ℕ → Type 0
 WritePromise l entry r fields exit =
     Told (Answers.planWritten (writingAnswer l (length entry))) r fields × (exit ≡ bytesAfter l entry)
+
+-- "The program and one whole run": the lines as text, or 17 for a buffer that is too short. The field is the number of bytes written.
+abbrev pub RunPromise : List ℕ → List ℕ → ℕ → List ℕ → List ℕ → Type 0
+RunPromise plan entry r fields exit = Told (printed (printingAnswer plan (length entry))) r fields × (exit ≡ textAfter plan entry)

@@ -5,9 +5,11 @@ use meaning::Opened;
 use meaning::PlanRead;
 use meaning::PlanWritten;
 use meaning::Stepped;
+use whole_run::running::Printed;
 ghost use mathlib.Core.List.{[]};
 ghost use lib.ListN.{drop};
 ghost use Rattle.meaning.specs.Answers.{opened, admitted, offered, stepped, planRead, planWritten};
+ghost use Rattle.whole_run.specs.Printing.{printed};
 ghost use Rattle.cabinet.specs.Told.{Told, FitWords};
 
 // Opening has no other field.
@@ -130,5 +132,20 @@ pub fn tell_written(answer: PlanWritten, fields: &mut [u32; 1]) -> u32
         PlanWritten::WrongLayout => 15,
         PlanWritten::WrongSlots => 16,
         PlanWritten::TooShort => 17,
+    }
+}
+
+// A run that is printed: the number of bytes written.
+pub fn tell_printed(answer: Printed, fields: &mut [u32; 1]) -> u32
+    requires { ⌜ FitWords (printed answer .fields) ⌝ }
+    ensures { λ r. ⌜ Told (printed answer) r (now (fields .exit)) ⌝ }
+{
+    *fields = [0];
+    match answer {
+        Printed::Written(size) => {
+            *fields = [size as u32];
+            0
+        }
+        Printed::TooShort => 17,
     }
 }

@@ -10,3 +10,5 @@ pub mod SlotRun
 pub mod Going
 pub mod Whole
 pub mod Texts
+pub mod Settles
+pub mod Zeroed

@@ -1,3 +1,4 @@
 -- What the contracts of a whole run cite.
 pub mod Parts
 pub mod Printing
+pub mod Rooms

@@ -26,7 +26,7 @@ ghost use Rattle.words.specs.Sound.{soundWords};
 ghost use Rattle.plan.specs.Good.{Readable};
 ghost use Rattle.lines.specs.Put.{Room, Put};
 ghost use Rattle.meaning.proofs.TextMost.{textOf};
-ghost use Rattle.whole_run.specs.Printing.{printingAnswer, textAfter};
+ghost use Rattle.whole_run.specs.Printing.{RunPromise};
 
 // Printing the run of a plan: the number of bytes written, or the refusal of a buffer that is too short.
 pub enum Printed {
@@ -94,7 +94,7 @@ fn print_run(plan: &[u8], out: &mut [u8]) -> usize
 // Prints the run of a plan's bytes, whatever they are. A buffer under 420,000 bytes is refused with no byte changed: the longest text fits
 // into that many.
 pub fn run_plan(plan: &[u8], out: &mut [u8]) -> Printed
-    ensures { λ r. ⌜ (r ≡ printingAnswer (now (plan .entry)) (length (now (out .entry)))) × (now (out .exit) ≡ textAfter (now (plan .entry)) (now (out .entry))) ⌝ }
+    ensures { λ r. ⌜ RunPromise (now (plan .entry)) (now (out .entry)) r (now (out .exit)) ⌝ }
 {
     if out.len() < 420000 {
         return Printed::TooShort;

@@ -65,7 +65,7 @@ run-open-requires c κs =
     let words : c .before .before .before .before .before .open .last .0 ≡ opened set (room .result) .1 = ap (λ (q : Opened × List ℕ). q .1) p in
     let done = sym answer ∙ c .before .before .enum-told .given .1 in (
       (ap soundWords words ∙ opened-sound set (room .result) done, ap contents words ∙ opened-new set (room .result) done ∙ ap newBox same, s .pre .0),
-      subst (λ (l : List ℕ). Room (s .args .out .now) 0 l) (run-opened (s .args .plan .now) (s .args .h) (s .pre .0) set same (room .result) (sym (room .ensures)) _ answer (c .before .before .enum-told .given .1)) (s .pre .1),
+      subst (λ (l : List ℕ). Room (s .args .out .now) 0 l) (run-opened (s .args .plan .now) (s .args .h) (s .pre .0) set same (room .result) (sym (room .ensures .size)) _ answer (c .before .before .enum-told .given .1)) (s .pre .1),
     )
 
 enum-told-2 : tie.Need-enum-told-2
@@ -81,7 +81,7 @@ put-refused-requires c κs =
     let same = factors-are (s .args .plan .now) (s .args .h) (s .pre .0) (classes .result .now) (classes .ensures) (copied .last .1 .0) (copied .ensures) in
     let room = c .before .before .before .before .before .before .before .before .before .before .before .box-room in
     let answer : c .before .before .before .before .open .result ≡ opened set (room .result) .0 = ap (λ (q : Opened × List ℕ). q .0) p in
-    subst (λ (l : List ℕ). Room (s .args .out .now) 0 l) (refused-2 (s .args .plan .now) (s .args .h) (s .pre .0) set same (room .result) (sym (room .ensures)) _ answer (c .before .enum-told2 .given .1)) (s .pre .1)
+    subst (λ (l : List ℕ). Room (s .args .out .now) 0 l) (refused-2 (s .args .plan .now) (s .args .h) (s .pre .0) set same (room .result) (sym (room .ensures .size)) _ answer (c .before .enum-told2 .given .1)) (s .pre .1)
 
 enum-told-3 : tie.Need-enum-told-3
 enum-told-3 c = search needs
@@ -96,7 +96,7 @@ put-refused-requires-2 c κs =
     let same = factors-are (s .args .plan .now) (s .args .h) (s .pre .0) (classes .result .now) (classes .ensures) (copied .last .1 .0) (copied .ensures) in
     let room = c .before .before .before .before .before .before .before .before .before .before .before .box-room in
     let answer : c .before .before .before .before .open .result ≡ opened set (room .result) .0 = ap (λ (q : Opened × List ℕ). q .0) p in
-    subst (λ (l : List ℕ). Room (s .args .out .now) 0 l) (refused-17 (s .args .plan .now) (s .args .h) (s .pre .0) set same (room .result) (sym (room .ensures)) _ answer (c .before .enum-told3 .given .1)) (s .pre .1)
+    subst (λ (l : List ℕ). Room (s .args .out .now) 0 l) (refused-17 (s .args .plan .now) (s .args .h) (s .pre .0) set same (room .result) (sym (room .ensures .size)) _ answer (c .before .enum-told3 .given .1)) (s .pre .1)
 
 same-length : tie.Need-same-length
 same-length c = search needs
@@ -112,7 +112,7 @@ returns c =
     let room = c .before .before .before .before .before .before .before .before .before .before .before .before .before .before .before .before .box-room in
     let answer : c .before .before .before .before .before .before .before .before .before .open .result ≡ opened set (room .result) .0 = ap (λ (q : Opened × List ℕ). q .0) p in
     let q = c .before .before .before .run-open in
-    subst (λ (l : List ℕ). Put (s .args .out .now) (q .last .1 .1 .1 .0) 0 l (q .result)) (sym (run-opened (s .args .plan .now) (s .args .h) (s .pre .0) set same (room .result) (sym (room .ensures)) _ answer (c .before .before .before .before .before .before .enum-told .given .1))) (q .ensures)
+    subst (λ (l : List ℕ). Put (s .args .out .now) (q .last .1 .1 .1 .0) 0 l (q .result)) (sym (run-opened (s .args .plan .now) (s .args .h) (s .pre .0) set same (room .result) (sym (room .ensures .size)) _ answer (c .before .before .before .before .before .before .enum-told .given .1))) (q .ensures)
 
 same-length-2 : tie.Need-same-length-2
 same-length-2 c = search needs
@@ -128,7 +128,7 @@ returns-2 c =
     let room = c .before .before .before .before .before .before .before .before .before .before .before .before .before .before .box-room in
     let answer : c .before .before .before .before .before .before .before .open .result ≡ opened set (room .result) .0 = ap (λ (q : Opened × List ℕ). q .0) p in
     let q = c .before .before .put-refused in
-    subst (λ (l : List ℕ). Put (s .args .out .now) (q .last .0) 0 l (q .result)) (sym (refused-2 (s .args .plan .now) (s .args .h) (s .pre .0) set same (room .result) (sym (room .ensures)) _ answer (c .before .before .before .before .enum-told2 .given .1))) (q .ensures)
+    subst (λ (l : List ℕ). Put (s .args .out .now) (q .last .0) 0 l (q .result)) (sym (refused-2 (s .args .plan .now) (s .args .h) (s .pre .0) set same (room .result) (sym (room .ensures .size)) _ answer (c .before .before .before .before .enum-told2 .given .1))) (q .ensures)
 
 same-length-3 : tie.Need-same-length-3
 same-length-3 c = search needs
@@ -144,7 +144,7 @@ returns-3 c =
     let room = c .before .before .before .before .before .before .before .before .before .before .before .before .before .before .box-room in
     let answer : c .before .before .before .before .before .before .before .open .result ≡ opened set (room .result) .0 = ap (λ (q : Opened × List ℕ). q .0) p in
     let q = c .before .before .put-refused2 in
-    subst (λ (l : List ℕ). Put (s .args .out .now) (q .last .0) 0 l (q .result)) (sym (refused-17 (s .args .plan .now) (s .args .h) (s .pre .0) set same (room .result) (sym (room .ensures)) _ answer (c .before .before .before .before .enum-told3 .given .1))) (q .ensures)
+    subst (λ (l : List ℕ). Put (s .args .out .now) (q .last .0) 0 l (q .result)) (sym (refused-17 (s .args .plan .now) (s .args .h) (s .pre .0) set same (room .result) (sym (room .ensures .size)) _ answer (c .before .before .before .before .enum-told3 .given .1))) (q .ensures)
 
 pub run-read-spec : {M : Type 1} → statement M
 run-read-spec =

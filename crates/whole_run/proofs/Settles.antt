@@ -1,0 +1,19 @@
+-- "answers satisfying one promise are proved the same": of the public functions of this crate.
+use Prim.Native.Nat.{ℕ}
+use mathlib.Core.Path.{_≡_, sym, _∙_}
+use mathlib.Core.List.{List}
+use native.Mathlib.Omega.{arith}
+use lib.ListN.{length}
+use lib.Seq.{ext-getD}
+use Rattle.whole_run.specs.declared.running.Printed.{Printed}
+use Rattle.whole_run.specs.Printing.{RunPromise}
+use Rattle.whole_run.specs.Rooms.{Zeros}
+
+pub run-plan-settles : (plan entry : List ℕ) (r s : Printed) (after left : List ℕ) → RunPromise plan entry r after → RunPromise plan entry s left → (r ≡ s) × (after ≡ left)
+run-plan-settles plan entry r s after left p q = (p .0 ∙ sym (q .0), p .1 ∙ sym (q .1))
+
+-- `plan_room`, `text_room` and `box_room`.
+pub room-settles : (n : ℕ) (a b : List ℕ) → Zeros n a → Zeros n b → a ≡ b
+room-settles n a b p q =
+    let e = p .size in
+    ext-getD 0 a b (sym e ∙ q .size) (λ i h. p .each i (omega arith) ∙ sym (q .each i (omega arith)))
