@@ -1,10 +1,10 @@
 /*
- * Zeppilorn for C and C++: the box of one link, and plan files. The library is target/staticlib/libcabinet.a (`rt staticlib cabinet`), for
+ * Zeppilorn for C and C++: the box of one link, plan files, and the whole run of a plan. The library is target/staticlib/libcabinet.a (`rt staticlib cabinet`), for
  * x86-64 Linux; examples/cabinet.c is a program to copy. Which theorem holds each sentence stands in docs/PROMISES.md.
  *
  * The caller lends all memory; the library keeps none, so each box may lie where the caller likes, and two boxes know nothing of each
  * other. A pointer with a count must point to that many elements, and `fields` to as many as its brackets say. What a call changes
- * (`words`, `plan` of zeppilorn_write_plan, `fields`) must not overlap anything else that is lent to the same call, and no other thread may
+ * (`words`, `plan` of zeppilorn_write_plan, `text`, `fields`) must not overlap anything else that is lent to the same call, and no other thread may
  * use it meanwhile. Nothing else is asked: every call answers on any contents.
  *
  * Each call returns an answer number. 0 is success. Every refusal leaves all lent words and bytes unchanged and sets all fields to 0, but
@@ -20,7 +20,7 @@
  *    6  (11) or (12) fails; gives the first such t   15  plan counts or offsets are wrong
  *    7  no such connection                           16  arrival slots fall, or one exceeds 1,000,000
  *    8  length 0 or above s                          17  the buffer lent for a new box or a written plan
- *    9  the packet does not fit the envelope             is too short
+ *    9  the packet does not fit the envelope             (or for the text of a run) is too short
  *
  * Where a call can refuse for several reasons, it gives the first of them in the order in which its numbers stand below.
  */
@@ -33,7 +33,7 @@
 /* The words that a box takes; words beyond them are never altered. */
 #define ZEPPILORN_BOX_WORDS 4371
 
-/* The most bytes that the text of a whole run has, for a call of the whole run on a plan. */
+/* The bytes that are lent for the text of a run: the text of any plan fits into them. */
 #define ZEPPILORN_TEXT_BYTES 420000
 
 #ifdef __cplusplus
@@ -117,6 +117,14 @@ uint32_t zeppilorn_slot_arrivals(const uint8_t *arrivals, size_t size, size_t fr
 uint32_t zeppilorn_write_plan(uint32_t interval, uint32_t cycle, const uint32_t *factors, size_t classes,
                               const uint32_t *connections, size_t connection_words, const uint32_t *arrivals, size_t arrival_words,
                               uint8_t *plan, size_t size, uint32_t fields[1]);
+
+/*
+ * Makes the whole run of a plan in a box of its own and writes its lines, as the program prints them, to the start of `text`. A plan that is
+ * refused by reading or opening is told there, by a line REFUSED and the number. Bytes of `text` beyond the lines are not altered.
+ * Answers 0, or 17 where `text_size` is below ZEPPILORN_TEXT_BYTES.
+ * fields[0]: the bytes written.
+ */
+uint32_t zeppilorn_run_plan(const uint8_t *plan, size_t size, uint8_t *text, size_t text_size, uint32_t fields[1]);
 
 #ifdef __cplusplus
 }

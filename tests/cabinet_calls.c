@@ -113,9 +113,24 @@ static void plans(void)
     expect_stretch(plan + 80, 9, 8, 0, 0);
 }
 
+/* A plan that is refused, and a buffer that is one byte too short. */
+static void runs(void)
+{
+    static uint8_t text[ZEPPILORN_TEXT_BYTES];
+    static const char refused[] = "REFUSED 13\n";
+
+    text[0] = text[11] = 7;
+    EXPECT(zeppilorn_run_plan((const uint8_t *)"", 0, text, ZEPPILORN_TEXT_BYTES - 1, f), 17, 0);
+    expect("the text of a run that is refused", text[0], 7, NULL, NULL, 0);
+    EXPECT(zeppilorn_run_plan((const uint8_t *)"", 0, text, ZEPPILORN_TEXT_BYTES, f), 0, 11);
+    expect("the line of a refused plan", (uint32_t)memcmp(text, refused, 11), 0, NULL, NULL, 0);
+    expect("the byte beyond the text", text[11], 7, NULL, NULL, 0);
+}
+
 int main(void)
 {
     boxes();
     plans();
+    runs();
     return 0;
 }
