@@ -1,4 +1,3 @@
 -- What the theorems about the program's memory speak of.
 pub mod Runs
-pub mod Promises
 pub mod Performed

@@ -3,7 +3,7 @@ use Prim.Native.Nat.{ℕ}
 use mathlib.Core.Path.{_≡_}
 use mathlib.Core.List.{List, [], _∷_}
 use Rattle.guarantees.specs.Runs.{Call, admit, offer, step, Reply, toAdmission, toOffer, toStep}
-use Rattle.memory.specs.Promises.{AdmitPromise, OfferPromise, StepPromise}
+use Rattle.multiplexer.specs.Promises.{AdmitPromise, OfferPromise, StepPromise}
 
 -- A public call on these words gave this answer and left those words: what its promise says of them.
 unfoldable pub Performed : List ℕ → Call → Reply → List ℕ → Type 0

@@ -2,3 +2,4 @@ pub mod Admits
 pub mod Offers
 pub mod Sounds
 pub mod Steps
+pub mod Settles

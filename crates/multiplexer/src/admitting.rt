@@ -13,11 +13,11 @@ ghost use mathlib.Core.Path.{_≡_};
 ghost use mathlib.Core.Bool.{true};
 ghost use Rattle.meaning.specs.Numbers.{connectionAllowed};
 ghost use Rattle.meaning.specs.Envelope.{full};
-ghost use Rattle.meaning.specs.Calls.{admissionAnswer, afterAdmission};
 ghost use Rattle.words.specs.Contents.{contents};
 ghost use Rattle.words.specs.Sound.{soundWords};
 ghost use Rattle.admission.specs.Asking.{connectionOf};
-ghost use Rattle.multiplexer.specs.Promised.{Leaves, askedIn, allowanceIn, admission as admissionIs, wordsAdmitted};
+ghost use Rattle.multiplexer.specs.Promised.{askedIn, allowanceIn};
+ghost use Rattle.multiplexer.specs.Promises.{AdmitPromise, AdmitSoundPromise};
 
 // Whether the numbers of a connection are allowed: class, s, b and T in range, T dividing M.
 fn allowed(ws: &[u32], c: Asked) -> bool
@@ -44,7 +44,7 @@ fn allowed(ws: &[u32], c: Asked) -> bool
 // An admission on sound words.
 pub fn admit_sound(ws: &mut [u32], c: Asked) -> Admitted
     requires { ⌜ soundWords (now ws) ≡ true ⌝ }
-    ensures { λ r. ⌜ (r ≡ admissionAnswer (contents (now (ws .entry))) (connectionOf c)) × Leaves (now (ws .entry)) (now (ws .exit)) (afterAdmission (contents (now (ws .entry))) (connectionOf c) (admissionAnswer (contents (now (ws .entry))) (connectionOf c))) ⌝ }
+    ensures { λ r. ⌜ AdmitSoundPromise (now (ws .entry)) c r (now (ws .exit)) ⌝ }
 {
     if !allowed(ws, c) {
         return Admitted::OffRange;
@@ -83,7 +83,7 @@ fn fresh_row(c: Asked) -> Row
 
 // Admission: "Admission: 1, 3, 4, 5, 6".
 pub fn admit(ws: &mut [u32], class: u32, longest: u32, burst: u32, period: u32) -> Admitted
-    ensures { λ r. ⌜ (r ≡ admissionIs (now (ws .entry)) (record { class = class; longest = longest; burst = burst; period = period })) × (now (ws .exit) ≡ wordsAdmitted (now (ws .entry)) (record { class = class; longest = longest; burst = burst; period = period })) ⌝ }
+    ensures { λ r. ⌜ AdmitPromise (now (ws .entry)) class longest burst period r (now (ws .exit)) ⌝ }
 {
     if !is_sound(ws) {
         return Admitted::NotSound;

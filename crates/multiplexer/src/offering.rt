@@ -21,11 +21,11 @@ ghost use Prim.Native.Nat.{suc, _+_, _≤_};
 ghost use Rattle.meaning.specs.Numbers.{factor, largestFactor};
 ghost use Rattle.meaning.specs.Envelope.{conforms};
 ghost use Rattle.words.specs.Places.{word};
-ghost use Rattle.meaning.specs.Calls.{offerAnswer, afterOffer};
 ghost use Rattle.words.specs.Contents.{contents};
 ghost use Rattle.words.specs.Sound.{soundWords};
 ghost use Rattle.words.specs.Changes.{Become};
-ghost use Rattle.multiplexer.specs.Promised.{Leaves, RowReady, Acceptable, offering, wordsOffered, acceptedBox};
+ghost use Rattle.multiplexer.specs.Promised.{RowReady, Acceptable, acceptedBox};
+ghost use Rattle.multiplexer.specs.Promises.{OfferPromise, OfferSoundPromise};
 
 // The factor of a connection's class: the tag of the queue that its packets join.
 fn tag_of(ws: &[u32], class: u32) -> usize
@@ -66,7 +66,7 @@ fn fits(row: Row, slot: u32) -> bool
 // An offer on sound words.
 pub fn offer_sound(ws: &mut [u32], n: u32, units: u32) -> Offered
     requires { ⌜ soundWords (now ws) ≡ true ⌝ }
-    ensures { λ r. ⌜ (r ≡ offerAnswer (contents (now (ws .entry))) n units) × Leaves (now (ws .entry)) (now (ws .exit)) (afterOffer (contents (now (ws .entry))) n units (offerAnswer (contents (now (ws .entry))) n units)) ⌝ }
+    ensures { λ r. ⌜ OfferSoundPromise (now (ws .entry)) n units r (now (ws .exit)) ⌝ }
 {
     if !is_within(1, n, standing_count(ws)) {
         return Offered::NoConnection;
@@ -86,7 +86,7 @@ pub fn offer_sound(ws: &mut [u32], n: u32, units: u32) -> Offered
 
 // Offering a packet: "Offer: 1, 7, 8, 9, 10".
 pub fn offer(ws: &mut [u32], n: u32, units: u32) -> Offered
-    ensures { λ r. ⌜ (r ≡ offering (now (ws .entry)) n units) × (now (ws .exit) ≡ wordsOffered (now (ws .entry)) n units) ⌝ }
+    ensures { λ r. ⌜ OfferPromise (now (ws .entry)) n units r (now (ws .exit)) ⌝ }
 {
     if !is_sound(ws) {
         return Offered::NotSound;

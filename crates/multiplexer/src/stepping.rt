@@ -12,11 +12,12 @@ ghost use mathlib.Core.Bool.{true, false, _&&_};
 ghost use Prim.Native.Nat.{suc, _<_, _≤_};
 ghost use Rattle.meaning.specs.Numbers.{lastSlot};
 ghost use Rattle.meaning.specs.Queues.{turnAt, tagZeroWaits};
-ghost use Rattle.meaning.specs.Step.{queuesTaken, turnDue, stepAnswer, afterStep, sentAnswer, linkTaken, moved};
+ghost use Rattle.meaning.specs.Step.{queuesTaken, turnDue, sentAnswer, linkTaken, moved};
 ghost use Rattle.words.specs.Contents.{contents};
 ghost use Rattle.words.specs.Sound.{Fitting, soundWords};
 ghost use Rattle.words.specs.Changes.{Become};
-ghost use Rattle.multiplexer.specs.Promised.{Leaves, stepping, wordsStepped, sentBox};
+ghost use Rattle.multiplexer.specs.Promised.{sentBox};
+ghost use Rattle.multiplexer.specs.Promises.{StepPromise, StepSoundPromise};
 
 // Whether the queues turn at the slot to which the counter is raised.
 fn turn_due(ws: &[u32]) -> bool
@@ -94,7 +95,7 @@ fn move_on(ws: &mut [u32]) -> Stepped
 // A step on sound words.
 pub fn step_sound(ws: &mut [u32]) -> Stepped
     requires { ⌜ soundWords (now ws) ≡ true ⌝ }
-    ensures { λ r. ⌜ (r ≡ stepAnswer (contents (now (ws .entry)))) × Leaves (now (ws .entry)) (now (ws .exit)) (afterStep (contents (now (ws .entry))) (stepAnswer (contents (now (ws .entry))))) ⌝ }
+    ensures { λ r. ⌜ StepSoundPromise (now (ws .entry)) r (now (ws .exit)) ⌝ }
 {
     if 4000000000 <= counter_of(ws) {
         return Stepped::CounterEnded;
@@ -107,7 +108,7 @@ pub fn step_sound(ws: &mut [u32]) -> Stepped
 
 // One step: "Step: 1, 12, 11".
 pub fn step(ws: &mut [u32]) -> Stepped
-    ensures { λ r. ⌜ (r ≡ stepping (now (ws .entry))) × (now (ws .exit) ≡ wordsStepped (now (ws .entry))) ⌝ }
+    ensures { λ r. ⌜ StepPromise (now (ws .entry)) r (now (ws .exit)) ⌝ }
 {
     if !is_sound(ws) {
         return Stepped::NotSound;

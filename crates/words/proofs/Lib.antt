@@ -18,3 +18,4 @@ pub mod LinkWritten
 pub mod Loading
 pub mod RowChanges
 pub mod Readings
+pub mod Settles

@@ -1,5 +1,6 @@
 -- Opening a box in lent words.
 use Prim.Native.Nat.{ℕ}
+use mathlib.Core.Path.{_≡_}
 use mathlib.Core.List.{List, _++_}
 use lib.ListN.{length, drop, replicate}
 use Rattle.meaning.specs.declared.Opened.{Opened}
@@ -26,3 +27,7 @@ afterOpening opening ws Opened.TooShort = ws
 unfoldable pub opened : Settings → List ℕ → Opened × List ℕ
 opened opening ws =
     (openingAnswer boxWords (length ws) opening, afterOpening opening ws (openingAnswer boxWords (length ws) opening))
+
+-- What `open` promises of the words at entry, its answer and the words at exit: "Opening: 2, 17."
+abbrev pub OpenPromise : List ℕ → ℕ → ℕ → List ℕ → Opened → List ℕ → Type 0
+OpenPromise entry d m factors r exit = (r, exit) ≡ opened (asked d m factors) entry

@@ -40,6 +40,10 @@ wellFormed ws = leb boxWords (length ws) && unusedClear ws && linkClear ws && un
 unfoldable pub soundWords : List ℕ → Bool
 soundWords ws = wellFormed ws && sound (contents ws)
 
+-- What `is_sound` promises: "A state is sound exactly when .."
+abbrev pub SoundPromise : List ℕ → Bool → Type 0
+SoundPromise entry r = r ≡ soundWords entry
+
 -- The numbers that sound words keep, as the inner functions ask them.
 pub record Fitting (ws : List ℕ) : Type 0 where
   pub enough : boxWords ≤ length ws

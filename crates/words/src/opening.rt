@@ -5,7 +5,7 @@ ghost use mathlib.Core.Path.{_≡_};
 ghost use mathlib.Core.List.{_++_};
 ghost use Prim.Native.Nat.{_+_, _≤_};
 ghost use lib.ListN.{length, take, drop};
-ghost use Rattle.words.specs.Opening.{asked, cleared, opened};
+ghost use Rattle.words.specs.Opening.{cleared, OpenPromise};
 
 // The first n words become 0.
 fn clear(ws: &mut [u32], n: usize)
@@ -33,7 +33,7 @@ fn write_factors(ws: &mut [u32], factors: &[u32])
 
 // Opens a box: the words are then those of a new box, whatever stood there before; a refusal leaves them as they were.
 pub fn open(ws: &mut [u32], d: u32, m: u32, factors: &[u32]) -> Opened
-    ensures { λ r. ⌜ (r, now (ws .exit)) ≡ opened (asked d m (now (factors .entry))) (now (ws .entry)) ⌝ }
+    ensures { λ r. ⌜ OpenPromise (now (ws .entry)) d m (now (factors .entry)) r (now (ws .exit)) ⌝ }
 {
     if !settings_allowed(d, m, factors) {
         return Opened::OffRange;

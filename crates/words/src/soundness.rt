@@ -12,7 +12,7 @@ ghost use lib.ListN.{length};
 ghost use Rattle.meaning.specs.Numbers.{largestFactor};
 ghost use Rattle.words.specs.Places.{word, lengthsBelow, startOf, tagOf};
 ghost use Rattle.words.specs.Contents.{settingsAt, turnsAt, queueAt};
-ghost use Rattle.words.specs.Sound.{Tables, soundWords};
+ghost use Rattle.words.specs.Sound.{Tables, SoundPromise};
 ghost use Rattle.words.specs.Tested.{countsTested, queueFits, queuesTested};
 
 // The counter, the waiting packets and the count of accepted ones are in range.
@@ -84,7 +84,7 @@ fn queues_tested(ws: &[u32]) -> bool
 
 // The words are sound: they stand for contents that document 01 calls sound.
 pub fn is_sound(ws: &[u32]) -> bool
-    ensures { λ r. ⌜ r ≡ soundWords (now (ws .entry)) ⌝ }
+    ensures { λ r. ⌜ SoundPromise (now (ws .entry)) r ⌝ }
 {
     if ws.len() < 4371 {
         return false;

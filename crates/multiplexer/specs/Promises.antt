@@ -1,28 +1,16 @@
--- What the `ensures` of each public function on words says, in its own text, of the words at entry, the result and the words at exit.
+-- What each call promises of the words at entry, its answer and the words at exit.
 use Prim.Native.Nat.{ℕ}
 use mathlib.Core.Path.{_≡_}
-use mathlib.Core.Bool.{Bool}
 use mathlib.Core.List.{List}
-use Rattle.meaning.specs.declared.Opened.{Opened}
 use Rattle.meaning.specs.declared.Admitted.{Admitted}
 use Rattle.meaning.specs.declared.Offered.{Offered}
 use Rattle.meaning.specs.declared.Stepped.{Stepped}
 use Rattle.meaning.specs.Calls.{admissionAnswer, afterAdmission, offerAnswer, afterOffer}
 use Rattle.meaning.specs.Step.{stepAnswer, afterStep}
 use Rattle.words.specs.Contents.{contents}
-use Rattle.words.specs.Sound.{soundWords}
-use Rattle.words.specs.Opening.{asked, opened}
 use Rattle.admission.specs.declared.Asked.{Asked}
 use Rattle.admission.specs.Asking.{connectionOf}
 use Rattle.multiplexer.specs.Promised.{Leaves, admission, wordsAdmitted, offering, wordsOffered, stepping, wordsStepped}
-
--- `words::opening::open`: "Opening: 2, 17."
-abbrev pub OpenPromise : List ℕ → ℕ → ℕ → List ℕ → Opened → List ℕ → Type 0
-OpenPromise entry d m factors r exit = (r, exit) ≡ opened (asked d m factors) entry
-
--- `words::soundness::is_sound`: "A state is sound exactly when .."
-abbrev pub SoundPromise : List ℕ → Bool → Type 0
-SoundPromise entry r = r ≡ soundWords entry
 
 -- `multiplexer::admitting::admit`: "Admission: 1, 3, 4, 5, 6."
 abbrev pub AdmitPromise : List ℕ → ℕ → ℕ → ℕ → ℕ → Admitted → List ℕ → Type 0

@@ -1,28 +1,14 @@
--- "answers satisfying one promise are proved the same": for each public function on words, two results and two final memories that
--- satisfy its promise at the same entry are the same. The plan's functions have theirs in `plan`, `Settled`.
+-- "answers satisfying one promise are proved the same": for each call, two results and two final memories that satisfy its promise at the
+-- same entry are the same.
 use Prim.Native.Nat.{ℕ}
-use mathlib.Core.Path.{_≡_, sym, ap, _∙_}
-use mathlib.Core.Bool.{Bool}
+use mathlib.Core.Path.{_≡_}
 use mathlib.Core.List.{List}
-use Rattle.meaning.specs.declared.Opened.{Opened}
 use Rattle.meaning.specs.declared.Admitted.{Admitted}
 use Rattle.meaning.specs.declared.Offered.{Offered}
 use Rattle.meaning.specs.declared.Stepped.{Stepped}
 use Rattle.admission.specs.declared.Asked.{Asked}
-use Rattle.memory.specs.Promises.{OpenPromise, SoundPromise, AdmitPromise, OfferPromise, StepPromise, AdmitSoundPromise, OfferSoundPromise, StepSoundPromise}
-
--- What both equal settles them.
-one : {A : Type 0} {a b c : A} → a ≡ c → b ≡ c → a ≡ b
-one p q = p ∙ sym q
-
--- `words::opening::open`
-pub open-settles : (entry : List ℕ) (d m : ℕ) (factors : List ℕ) (r s : Opened) (after left : List ℕ) →
-    OpenPromise entry d m factors r after → OpenPromise entry d m factors s left → (r ≡ s) × (after ≡ left)
-open-settles entry d m factors r s after left p q = (ap (λ x. x .0) (one p q), ap (λ x. x .1) (one p q))
-
--- `words::soundness::is_sound`, which is lent its words to read only
-pub is-sound-settles : (entry : List ℕ) (r s : Bool) → SoundPromise entry r → SoundPromise entry s → r ≡ s
-is-sound-settles entry r s = one
+use Rattle.words.proofs.Settles.{one}
+use Rattle.multiplexer.specs.Promises.{AdmitPromise, OfferPromise, StepPromise, AdmitSoundPromise, OfferSoundPromise, StepSoundPromise}
 
 -- `multiplexer::admitting::admit`
 pub admit-settles : (entry : List ℕ) (class longest burst period : ℕ) (r s : Admitted) (after left : List ℕ) →
