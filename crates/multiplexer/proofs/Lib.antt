@@ -3,3 +3,4 @@ pub mod Offers
 pub mod Sounds
 pub mod Steps
 pub mod Settles
+pub mod SameCalls
