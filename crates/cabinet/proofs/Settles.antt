@@ -1,17 +1,14 @@
 -- "answers satisfying one promise are proved the same": for each exported function, two results, two lists of fields and two final
 -- memories that satisfy its promise at the same entry are the same.
 use Prim.Native.Nat.{ℕ}
-use mathlib.Core.Path.{_≡_, sym, _∙_}
+use mathlib.Core.Path.{_≡_}
 use mathlib.Core.List.{List}
 use Rattle.meaning.specs.Answers.{Answer}
 use Rattle.meaning.specs.Numbers.{Connection}
 use Rattle.meaning.specs.Plan.{Lent}
+use Rattle.words.proofs.Settles.{one}
 use Rattle.cabinet.specs.Told.{Told}
 use Rattle.cabinet.specs.Promises.{BoxWordsPromise, OpenPromise, SoundPromise, AdmitPromise, OfferPromise, StepPromise, ReadPromise, FactorPromise, ConnectionPromise, ArrivalPromise, StretchPromise, WritePromise, RunPromise}
-
--- What both equal settles them.
-one : {A : Type 0} {a b c : A} → a ≡ c → b ≡ c → a ≡ b
-one p q = p ∙ sym q
 
 -- An answer that is told.
 told : {answer : Answer} {r s : ℕ} {f g : List ℕ} → Told answer r f → Told answer s g → (r ≡ s) × (f ≡ g)

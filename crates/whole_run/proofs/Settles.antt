@@ -5,12 +5,13 @@ use mathlib.Core.List.{List}
 use native.Mathlib.Omega.{arith}
 use lib.ListN.{length}
 use lib.Seq.{ext-getD}
+use Rattle.words.proofs.Settles.{one}
 use Rattle.whole_run.specs.declared.running.Printed.{Printed}
 use Rattle.whole_run.specs.Printing.{RunPromise}
 use Rattle.whole_run.specs.Rooms.{Zeros}
 
 pub run-plan-settles : (plan entry : List ℕ) (r s : Printed) (after left : List ℕ) → RunPromise plan entry r after → RunPromise plan entry s left → (r ≡ s) × (after ≡ left)
-run-plan-settles plan entry r s after left p q = (p .0 ∙ sym (q .0), p .1 ∙ sym (q .1))
+run-plan-settles plan entry r s after left p q = (one (p .0) (q .0), one (p .1) (q .1))
 
 -- `plan_room`, `text_room` and `box_room`.
 pub room-settles : (n : ℕ) (a b : List ℕ) → Zeros n a → Zeros n b → a ≡ b
