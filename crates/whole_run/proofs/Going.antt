@@ -25,7 +25,7 @@ use Rattle.plan.specs.Parts.{arrivalsIn, leading}
 use Rattle.plan.specs.Stretch.{walk-starts}
 use Rattle.multiplexer.proofs.Sounds.{counter-most}
 use Rattle.lines.specs.Put.{Room, Put}
-use Rattle.whole_run.specs.Parts.{RunsSlot, SlotRun, Walked, arrivalsPlaced, offersNow, answerNow, linesOfSlot, boxAfterSlot, restOfRun}
+use Rattle.whole_run.specs.Parts.{RunsSlot, PassesIdle, SlotRun, Walked, arrivalsPlaced, offersNow, answerNow, linesOfSlot, boxAfterSlot, restOfRun}
 use Rattle.whole_run.proofs.Reached.{Reached, reached-start, reached-as, reached-room, reached-next, reached-on, reached-last, text-one, text-append}
 use Rattle.whole_run.proofs.Stepping.{after-stop, after-on, after-moved, departed-most}
 
@@ -66,6 +66,18 @@ going-start numbers bytes ws out start s z =
       walked = walk-starts bytes ∙ ap (λ n. leading n (arrivalsIn bytes)) (sym z);
       few = omega arith;
       reached = reached-start out start (textOf (restOfRun numbers bytes (contents ws)));
+    }
+
+-- Idle slots are passed: the rest of the run is the same.
+pub going-later :
+    {numbers bytes : List ℕ} {box : Box} {ws before out : List ℕ} {start at passed departed : ℕ} {after : List ℕ} → Going numbers bytes box ws before out start at passed departed
+    → PassesIdle bytes passed (contents ws) after → Going numbers bytes box after before out start at passed departed
+going-later {numbers} {departed = departed} g p =
+    record {
+      still-sound = p .still-sound;
+      walked = p .walked;
+      few = omega (arith, g .few, p .later);
+      reached = reached-as _ (ap textOf (p .same-rest numbers departed)) (g .reached);
     }
 
 module _ {numbers bytes : List ℕ} {box : Box} {ws before out : List ℕ} {start at passed departed : ℕ} (room : Room before start (textOf (restOfRun numbers bytes box))) (g : Going numbers bytes box ws before out start at passed departed) where

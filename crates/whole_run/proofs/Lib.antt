@@ -5,6 +5,8 @@ pub mod Offering
 pub mod Due
 pub mod Factors
 pub mod Passing
+pub mod EmptyBox
+pub mod Idle
 pub mod Stepping
 pub mod SlotRun
 pub mod Going

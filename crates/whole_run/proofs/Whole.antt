@@ -1,17 +1,20 @@
 -- A plan that reads well, in a box that is open: its tables, its admissions and the rest of its run.
 use Prim.Native.Nat.{ℕ, _+_, _*_, _/_, _≤_}
 use mathlib.Core.Path.{_≡_, refl, sym, ap, ap₂, _∙_, subst}
+use mathlib.Core.Bool.{true, false, and-eq-true-iff}
 use mathlib.Core.List.{List, _++_}
 use native.Mathlib.Omega.{arith}
 use lib.ListN.{length, take, drop, length-take, length-drop}
-use borrow.Author.Tests.{le-leb}
+use lib.Dec.{leb}
+use borrow.Author.Tests.{le-leb, not-false}
+use Rattle.laws.specs.Tests.{every}
 use Rattle.laws.specs.Lists.{placedFrom}
 use Rattle.meaning.specs.declared.Header.{Header}
 use Rattle.meaning.specs.declared.Table.{Table}
 use Rattle.meaning.specs.Numbers.{Settings}
 use Rattle.meaning.specs.Box.{Box}
 use Rattle.meaning.specs.Calls.{newBox}
-use Rattle.meaning.specs.Plan.{Plan, wordsOf, contentsOf, table, factorAt, connectionAt}
+use Rattle.meaning.specs.Plan.{Plan, Arrival, wordsOf, contentsOf, table, factorAt, connectionAt, neverFallingFrom, lastArrivalSlot, slotsWrong}
 use Rattle.meaning.specs.Run.{AfterAdmissions, admitAll, openRun}
 use Rattle.meaning.proofs.TextMost.{textOf}
 use Rattle.meaning.proofs.SlotsEnough.{admissions-weight}
@@ -29,6 +32,11 @@ use Rattle.whole_run.proofs.Reached.{Reached, reached-start, reached-as
 part-length : (bytes : List ℕ) (t : Table) (width : ℕ) → t .start + width * t .count ≤ length bytes → length (partOf bytes t width) ≡ width * t .count
 unfolding partOf
 part-length bytes t width h = rw (le-leb _ _ h, length-take, length-drop) (omega arith)
+
+-- Slots that pass the test do not exceed 1,000,000.
+none-wrong : (l : List Arrival) → slotsWrong l ≡ false → every (λ a. leb (a .slot) lastArrivalSlot) l ≡ true
+unfolding slotsWrong
+none-wrong l e = and-eq-true-iff (neverFallingFrom 0 l) (every (λ a. leb (a .slot) lastArrivalSlot) l) .0 (not-false _ e) .1
 
 module _ (bytes : List ℕ) (h : Header) (r : Readable bytes h) where
   abbrev plan : Plan
@@ -71,7 +79,14 @@ module _ (bytes : List ℕ) (h : Header) (r : Readable bytes h) where
     sorted =
         let l = r .laid in
         let n = part-length bytes (h .arrivals) 12 (omega arith) in
-        subst Sorted (sym is) (record { never-falling = never-falling bytes h r; entries-most = omega (arith, n, l .arrivals-few) })
+        subst Sorted (sym is)
+        (record {
+          never-falling = never-falling bytes h r;
+          none-exceeds =
+              ap (every (λ (a : Arrival). leb (a .slot) lastArrivalSlot)) (arrivals-hold bytes h r) ∙
+              none-wrong (contentsOf (wordsOf bytes) h .arrivals) (r .slots);
+          entries-most = omega (arith, n, l .arrivals-few);
+        })
 
     arrivals-are : arrivalsIn arrivals ≡ contentsOf (wordsOf bytes) h .arrivals
     arrivals-are = ap arrivalsIn is ∙ arrivals-hold bytes h r

@@ -4,15 +4,18 @@ use mathlib.Core.Path.{_≡_}
 use mathlib.Core.Bool.{true}
 use mathlib.Core.List.{List, [], _∷_, _++_}
 use lib.ListN.{length, take}
+use lib.Dec.{leb}
+use Rattle.laws.specs.Tests.{every}
 use Rattle.laws.specs.Lists.{Placed, placedFrom}
 use Rattle.meaning.specs.declared.Stepped.{Stepped}
 use Rattle.meaning.specs.Numbers.{Connection}
 use Rattle.meaning.specs.Box.{Box}
 use Rattle.meaning.specs.Answers.{stepped}
 use Rattle.meaning.specs.Step.{stepAnswer, afterStep}
-use Rattle.meaning.specs.Plan.{Arrival, wordsOf, table, connectionAt, neverFallingFrom}
+use Rattle.meaning.specs.Plan.{Arrival, wordsOf, table, connectionAt, neverFallingFrom, lastArrivalSlot}
 use Rattle.meaning.specs.Run.{Line, AfterAdmissions, AfterOffers, admitAll, offerAll, departures}
 use Rattle.meaning.proofs.TextMost.{textOf}
+use Rattle.meaning.proofs.SlotsEnough.{potential}
 use Rattle.meaning.proofs.RestOfRun.{restOf, dueNow}
 use Rattle.words.specs.Contents.{contents}
 use Rattle.words.specs.Sound.{soundWords}
@@ -49,9 +52,10 @@ pub record Offers (after : AfterOffers) (ws before out : List ℕ) (start at : �
 abbrev pub arrivalsPlaced : List ℕ → List (Placed Arrival)
 arrivalsPlaced bytes = placedFrom 1 (arrivalsIn bytes)
 
--- The slots of the table never fall, and it is no longer than a plan's.
+-- The slots of the table never fall, none exceeds 1,000,000, and it is no longer than a plan's.
 pub record Sorted (bytes : List ℕ) : Type 0 where
   pub never-falling : neverFallingFrom 0 (arrivalsIn bytes) ≡ true
+  pub none-exceeds : every (λ a. leb (a .slot) lastArrivalSlot) (arrivalsIn bytes) ≡ true
   pub entries-most : length bytes / 12 ≤ 4096
 
 -- So many arrivals are passed: those before the slot to which the counter points.
@@ -91,6 +95,14 @@ pub record RunsSlot (r : SlotRun) (numbers bytes : List ℕ) (box : Box) (ws bef
   pub departed-are : r .departed ≡ length (departures numbers (answerNow numbers bytes box))
   pub still-sound : soundWords ws ≡ true
   pub stand-for : contents ws ≡ boxAfterSlot numbers bytes box
+
+-- Idle slots are passed, perhaps none: the words stand for a box before a later slot, from which the rest of the run has the same lines.
+pub record PassesIdle (bytes : List ℕ) (passed : ℕ) (box : Box) (ws : List ℕ) : Type 0 where
+  pub still-sound : soundWords ws ≡ true
+  pub walked : Walked bytes (contents ws) passed
+  pub later : box .counter ≤ contents ws .counter
+  pub same-rest : (numbers : List ℕ) (departed : ℕ) → restOf (arrivalsPlaced bytes) numbers box departed ≡ restOf (arrivalsPlaced bytes) numbers (contents ws) departed
+  pub no-more : potential (arrivalsPlaced bytes) (contents ws) ≤ potential (arrivalsPlaced bytes) box
 
 -- The rest of the run from this box on, with nothing departed before.
 abbrev pub restOfRun : List ℕ → List ℕ → Box → List Line

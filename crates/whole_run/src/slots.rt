@@ -9,9 +9,11 @@ use lines::put_end;
 use lines::put_stop;
 use meaning::Stepped;
 use multiplexer::stepping::step_sound;
+use plan::tables::arrival;
 use plan::tables::stretch;
 use words::parts::accepted;
 use words::parts::counter;
+use words::parts::pass_to;
 use words::parts::read_link;
 use words::parts::waiting_count;
 ghost use Prim.Native.Nat.{_/_, _≤_};
@@ -24,7 +26,7 @@ ghost use Rattle.meaning.specs.Run.{departures, finished};
 ghost use Rattle.words.specs.Contents.{contents};
 ghost use Rattle.words.specs.Sound.{soundWords};
 ghost use Rattle.lines.specs.Put.{Room, Put};
-ghost use Rattle.whole_run.specs.Parts.{arrivalsPlaced, slotOf, linesOfSlot, restOfRun, Walked, Sorted, RunsSlot};
+ghost use Rattle.whole_run.specs.Parts.{arrivalsPlaced, slotOf, linesOfSlot, restOfRun, Walked, Sorted, RunsSlot, PassesIdle};
 ghost use Rattle.meaning.proofs.TextMost.{textOf};
 
 // The line of a step, if it has one: that of a departure.
@@ -111,6 +113,25 @@ fn run_slot(
     }
 }
 
+// "for each slot offers that slot's arrivals and steps": with an empty box and no arrival the step is idle and no line is printed, so the
+// slots before the next arrival are passed at once. The tests that most slots fail come first.
+fn pass_idle(ws: &mut [u32], table: &[u8], passed: usize)
+    requires { ⌜ (soundWords (now ws) ≡ true) × Walked (now table) (contents (now ws)) passed × Sorted (now table) ⌝ }
+    ensures { λ _. ⌜ PassesIdle (now (table .entry)) passed (contents (now (ws .entry))) (now (ws .exit)) ⌝ }
+{
+    if passed >= table.len() / 12 {
+        return;
+    }
+    let next = arrival(table, passed).slot;
+    if next <= counter(ws) {
+        return;
+    }
+    if !is_empty(ws) {
+        return;
+    }
+    pass_to(ws, next);
+}
+
 // The slots of a run, from the box on that the admissions left.
 pub fn run_slots(
     ws: &mut [u32],
@@ -134,6 +155,7 @@ pub fn run_slots(
         }
         passed = slot.passed;
         departed += slot.departed;
+        pass_idle(ws, table, passed);
     }
     put_end(out, at, counter(ws), accepted(ws), departed)
 }

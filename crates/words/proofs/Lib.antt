@@ -14,6 +14,7 @@ pub mod QueueLaws
 pub mod Shift
 pub mod JoinTake
 pub mod SmallChanges
+pub mod PassedTo
 pub mod LinkWritten
 pub mod Loading
 pub mod RowChanges

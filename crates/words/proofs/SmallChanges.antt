@@ -160,13 +160,13 @@ module _ (ws : List ℕ) (v : ℕ) (k : Fitting ws) where
   counted : (i : ℕ) → (i ≡ 204 → ⊥) → word (set ws 204 v) i ≡ word ws i
   counted i h = word-other ws 204 v i h
 
-  counted-far : (i : ℕ) → 211 ≤ i → word (set ws 204 v) i ≡ word ws i
+  pub counted-far : (i : ℕ) → 211 ≤ i → word (set ws 204 v) i ≡ word ws i
   counted-far i h = counted i (λ q. omega arith)
 
-  counted-settings : settingsAt (set ws 204 v) ≡ settingsAt ws
+  pub counted-settings : settingsAt (set ws 204 v) ≡ settingsAt ws
   counted-settings = settings-same ws (set ws 204 v) (k .classes) (λ i h. counted i (λ q. omega arith))
 
-  counter-become : (qs : List (List Packet)) → untaggedEmpty (set ws 204 v) ≡ true → queuesAt (set ws 204 v) ≡ qs
+  pub counter-become : (qs : List (List Packet)) → untaggedEmpty (set ws 204 v) ≡ true → queuesAt (set ws 204 v) ≡ qs
       → Become ws (set ws 204 v) (record { settings = contents ws .settings; standing = contents ws .standing; counter = v; accepted = contents ws .accepted; link = contents ws .link; queues = qs })
   unfolding contents
   counter-become qs u q =

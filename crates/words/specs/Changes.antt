@@ -54,6 +54,18 @@ withAccepted box n =
       queues = box .queues;
     }
 
+-- The box with this counter.
+unfoldable pub withCounter : Box → ℕ → Box
+withCounter box n =
+    record {
+      settings = box .settings;
+      standing = box .standing;
+      counter = n;
+      accepted = box .accepted;
+      link = box .link;
+      queues = box .queues;
+    }
+
 -- The box a slot later: the counter is raised, and the queues are turned if due.
 unfoldable pub raised : Box → Box
 raised box =

@@ -14,7 +14,7 @@ ghost use Rattle.meaning.specs.Calls.{allowance, withStanding};
 ghost use Rattle.words.specs.Places.{word};
 ghost use Rattle.words.specs.Contents.{contents, linkOf};
 ghost use Rattle.words.specs.Sound.{Fitting};
-ghost use Rattle.words.specs.Changes.{Become, RowPut, raised, withAccepted, withLink};
+ghost use Rattle.words.specs.Changes.{Become, RowPut, raised, withAccepted, withCounter, withLink};
 
 // A connection's row.
 pub struct Row {
@@ -120,6 +120,14 @@ pub fn raise_counter(ws: &mut [u32])
     ensures { λ _. ⌜ Become (now (ws .entry)) (now (ws .exit)) (raised (contents (now (ws .entry)))) ⌝ }
 {
     ws[204] = ws[204] + 1;
+}
+
+// The counter is raised to a later slot at once: where nothing waits, turning the queues leaves them as they are.
+pub fn pass_to(ws: &mut [u32], slot: u32)
+    requires { ⌜ Fitting (now ws) × (length (waiting (contents (now ws))) ≡ 0) ⌝ }
+    ensures { λ _. ⌜ Become (now (ws .entry)) (now (ws .exit)) (withCounter (contents (now (ws .entry))) slot) ⌝ }
+{
+    ws[204] = slot;
 }
 
 // The allowance of the connection with this number is written.

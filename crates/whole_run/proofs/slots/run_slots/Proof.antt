@@ -1,4 +1,4 @@
--- `whole_run::slots::run_slots`: one slot after another, until the run is at its end or a step is refused.
+-- `whole_run::slots::run_slots`: one slot after another, idle ones passed, until the run is at its end or a step is refused.
 use mathlib.Core.Path.{_≡_, refl, sym, _∙_}
 use native.Mathlib.Omega.{arith}
 use lib.ListN.{length}
@@ -7,7 +7,7 @@ use Rattle.meaning.proofs.SlotsEnough.{potential}
 use Rattle.words.specs.Contents.{contents}
 use Rattle.words.proofs.Counts.{sound-fitting}
 use Rattle.whole_run.specs.Parts.{arrivalsPlaced}
-use Rattle.whole_run.proofs.Going.{Going, going-start, going-on, departed-fits, falls, slot-room, stop-room, stop-put, end-room, end-put}
+use Rattle.whole_run.proofs.Going.{Going, going-start, going-on, going-later, departed-fits, falls, slot-room, stop-room, stop-put, end-room, end-put}
 use Rattle.whole_run.proofs.slots.run_slots.Statement.{statement}
 use Rattle.whole_run.proofs.slots.run_slots.Tie as tie
 
@@ -58,18 +58,26 @@ add-departed c =
     let d = departed-fits (c .before .before .before .before .before .before .before .before .before .before .before .before .before .before .before .before .before .before .pre .1) (c .before .before .before .before .before .before .before .before .before .before .before .before .before .loop .inv .2) (sym (f .ensures) ∙ not-true (f .result) (c .before .before .before .before .before .before .before .before .before .before .if1 .taken)) (c .before .before .before .before .before .before .before .run-slot .ensures) (c .before .if2 .left) in
     omega (arith, d)
 
+pass-idle-requires : tie.Need-pass-idle-requires Inv-loop μ-loop
+pass-idle-requires c κs =
+    let f = c .before .before .before .before .before .before .before .before .before .before .before .before .is-finished in
+    let g = going-on (c .before .before .before .before .before .before .before .before .before .before .before .before .before .before .before .before .before .before .before .pre .1) (c .before .before .before .before .before .before .before .before .before .before .before .before .before .before .loop .inv .2) (sym (f .ensures) ∙ not-true (f .result) (c .before .before .before .before .before .before .before .before .before .before .before .if1 .taken)) (c .before .before .before .before .before .before .before .before .run-slot .ensures) (c .before .before .if2 .left) in
+    (g .still-sound, g .walked, c .before .before .before .before .before .before .before .before .before .before .before .before .before .before .before .before .before .before .before .pre .0 .2)
+
 loop-less : tie.Need-loop-less Inv-loop μ-loop
 loop-less c =
-    let f = c .before .before .before .before .before .before .before .before .before .before .before .is-finished in
-    falls (c .before .before .before .before .before .before .before .before .before .before .before .before .before .before .before .before .before .before .pre .1) (c .before .before .before .before .before .before .before .before .before .before .before .before .before .loop .inv .2) (sym (f .ensures) ∙ not-true (f .result) (c .before .before .before .before .before .before .before .before .before .before .if1 .taken)) (c .before .before .before .before .before .before .before .run-slot .ensures) (c .before .if2 .left)
+    let f = c .before .before .before .before .before .before .before .before .before .before .before .before .before .before .before .is-finished in
+    let less = falls (c .before .before .before .before .before .before .before .before .before .before .before .before .before .before .before .before .before .before .before .before .before .before .pre .1) (c .before .before .before .before .before .before .before .before .before .before .before .before .before .before .before .before .before .loop .inv .2) (sym (f .ensures) ∙ not-true (f .result) (c .before .before .before .before .before .before .before .before .before .before .before .before .before .before .if1 .taken)) (c .before .before .before .before .before .before .before .before .before .before .before .run-slot .ensures) (c .before .before .before .before .before .if2 .left) in
+    omega (arith, less, c .before .before .pass-idle .ensures .no-more)
 
 loop-again : tie.Need-loop-again Inv-loop μ-loop
 loop-again c =
-    let f = c .before .before .before .before .before .before .before .before .before .before .before .is-finished in
-    let i = c .before .before .before .before .before .before .before .before .before .before .before .before .before .loop .inv in (
-      omega (arith, c .before .before .before .before .before .before .before .run-slot .kept .0, i .0),
-      omega (arith, c .before .before .before .before .before .before .before .run-slot .kept .1, i .1),
-      going-on (c .before .before .before .before .before .before .before .before .before .before .before .before .before .before .before .before .before .before .pre .1) (i .2) (sym (f .ensures) ∙ not-true (f .result) (c .before .before .before .before .before .before .before .before .before .before .if1 .taken)) (c .before .before .before .before .before .before .before .run-slot .ensures) (c .before .if2 .left),
+    let f = c .before .before .before .before .before .before .before .before .before .before .before .before .before .before .before .is-finished in
+    let i = c .before .before .before .before .before .before .before .before .before .before .before .before .before .before .before .before .before .loop .inv in
+    let idle = c .before .before .pass-idle in (
+      omega (arith, idle .kept .0, c .before .before .before .before .before .before .before .before .before .before .before .run-slot .kept .0, i .0),
+      omega (arith, c .before .before .before .before .before .before .before .before .before .before .before .run-slot .kept .1, i .1),
+      going-later (going-on (c .before .before .before .before .before .before .before .before .before .before .before .before .before .before .before .before .before .before .before .before .before .before .pre .1) (i .2) (sym (f .ensures) ∙ not-true (f .result) (c .before .before .before .before .before .before .before .before .before .before .before .before .before .before .if1 .taken)) (c .before .before .before .before .before .before .before .before .before .before .before .run-slot .ensures) (c .before .before .before .before .before .if2 .left)) (idle .ensures),
     )
 
 counter-requires : tie.Need-counter-requires Inv-loop μ-loop
@@ -111,6 +119,7 @@ run-slots-spec =
     same-length-2
     returns
     add-departed
+    pass-idle-requires
     loop-less
     loop-again
     counter-requires
