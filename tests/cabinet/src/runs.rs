@@ -1,0 +1,218 @@
+//! Runs of calls, each compared with the reference: the answer, every field, and every word.
+
+use cabinet::boxes::{any_sound, free_words, newcomer, offer, words_of, Settings};
+use cabinet::call::Call;
+use cabinet::chance::Chance;
+use cabinet::trial::{Tally, Trial};
+use reference::words::{self, BOX_WORDS};
+use reference::{Connection, Multiplexer, LAST_SLOT};
+
+const RUNS: u64 = 100_000;
+/// Every answer that a call on a box can give, but 1, which the damaged states try.
+const ANSWERS: [usize; 12] = [0, 2, 3, 4, 5, 6, 7, 8, 9, 10, 11, 12];
+const LEAST: u64 = 500;
+
+#[derive(Clone, Copy, Debug)]
+enum Kind {
+    /// admissions, offers and steps in any order
+    Mixed,
+    /// all connections offer, twice over, at the slot before a turn and at the turn
+    Bursts,
+    /// each connection offers as soon as a packet fits
+    Edge,
+    /// a run goes on where the counter is near its end
+    NearEnd,
+    /// any sound box, late ones among them
+    AnySound,
+    /// the store is full or nearly so
+    Full,
+    /// as many connections as can stand
+    Crowded,
+}
+
+fn kind(run: u64) -> Kind {
+    match run % 50 {
+        0..=14 => Kind::Mixed,
+        15..=24 => Kind::Bursts,
+        25..=34 => Kind::Edge,
+        35..=39 => Kind::NearEnd,
+        40..=47 => Kind::AnySound,
+        48 => Kind::Full,
+        _ => Kind::Crowded,
+    }
+}
+
+struct Run<'a> {
+    kind: Kind,
+    mux: Multiplexer,
+    trial: Trial,
+    chance: Chance,
+    tally: &'a mut Tally,
+    /// how many offers were made at this slot
+    offered: usize,
+}
+
+pub fn part(seed: u64) -> Result<String, String> {
+    let mut tally = Tally::default();
+    for run in 0..RUNS {
+        let kind = kind(run);
+        one_run(kind, Chance::new(seed, 1, run), &mut tally).map_err(|what| format!("run {run}, {kind:?}: {what}"))?;
+    }
+    Ok(format!("{RUNS} runs, {} calls, answers {}", tally.calls(), tally.line(&ANSWERS, LEAST)?))
+}
+
+fn one_run(kind: Kind, mut chance: Chance, tally: &mut Tally) -> Result<(), String> {
+    let surplus = chance.below(4) as usize;
+    let (mux, trial) = match kind {
+        Kind::AnySound => {
+            let waiting = chance.pick(&[0, 1, 2, 5, 20, 60]);
+            constructed(&mut chance, surplus, |chance| any_sound(chance, waiting))
+        }
+        Kind::Full => constructed(&mut chance, surplus, nearly_full),
+        _ => opened(&mut chance, surplus, tally)?,
+    };
+    let mut run = Run { kind, mux, trial, chance, tally, offered: 0 };
+    run.admissions()?;
+    if let Kind::NearEnd = kind {
+        run.go_near_the_end();
+    }
+    run.calls()
+}
+
+fn constructed(chance: &mut Chance, surplus: usize, make: impl Fn(&mut Chance) -> Multiplexer) -> (Multiplexer, Trial) {
+    let mux = make(chance);
+    let trial = Trial::new(words_of(chance, &mux, surplus));
+    (mux, trial)
+}
+
+/// A new box, after an opening that may be refused.
+fn opened(chance: &mut Chance, surplus: usize, tally: &mut Tally) -> Result<(Multiplexer, Trial), String> {
+    let mut trial = Trial::new(free_words(chance, BOX_WORDS + surplus));
+    if chance.one_in(10) {
+        let bent = Settings::small(chance).bent(chance);
+        let (number, _) = trial.open(bent.interval, bent.cycle, &bent.factors)?;
+        tally.count(number);
+    }
+    let settings = if chance.one_in(400) { Settings::any(chance) } else { Settings::small(chance) };
+    let (number, mux) = trial.open(settings.interval, settings.cycle, &settings.factors)?;
+    tally.count(number);
+    Ok((mux.ok_or("settings in range were refused")?, trial))
+}
+
+/// A box of long bursts, whose connections no admission took together, so that more than 1,024 packets fit their envelopes.
+fn nearly_full(chance: &mut Chance) -> Multiplexer {
+    let mut mux = Multiplexer::open(256, 4096, &[1, 2, 4]).expect("settings in range");
+    for i in 0..32 {
+        mux.connections.push(Connection { class: 1 + i % 3, longest: 2, burst: 64, period: 4096 });
+        mux.slots.push(vec![]);
+    }
+    mux.counter = chance.below(200);
+    let waiting = if chance.one_in(100) { 0 } else { chance.between(990, 1024) };
+    for i in 0..waiting {
+        assert_eq!(mux.offer(1 + i % 32, 1 + i % 2).0, 0, "a packet fits");
+    }
+    mux
+}
+
+impl Run<'_> {
+    fn call(&mut self, call: Call) -> Result<u32, String> {
+        let number = self.trial.call(call, &mut self.mux)?.number;
+        self.tally.count(number);
+        Ok(number)
+    }
+
+    fn admissions(&mut self) -> Result<(), String> {
+        let asked = match self.kind {
+            Kind::AnySound | Kind::Full => 0,
+            Kind::Crowded => 36,
+            _ => self.chance.between(1, 8),
+        };
+        for _ in 0..asked {
+            let call = match self.kind {
+                Kind::Crowded => Call::Admit([self.mux.factors.len() as u32, 1, 1, self.mux.cycle as u32]),
+                _ => newcomer(&mut self.chance, &self.mux),
+            };
+            self.call(call)?;
+        }
+        Ok(())
+    }
+
+    fn calls(&mut self) -> Result<(), String> {
+        let most = match self.kind {
+            Kind::Full if self.mux.waiting.is_empty() => 1200,
+            _ => self.chance.between(20, 100),
+        };
+        let mut ended = 0;
+        for _ in 0..most {
+            let call = self.next_call();
+            let number = self.call(call)?;
+            // a step that is refused is refused for ever, unless the packets in its way go
+            ended += (number == 11 || number == 12) as u32;
+            if ended == 3 {
+                break;
+            }
+        }
+        self.call(Call::IsSound)?;
+        words::read(self.trial.words()).map(|_| ()).ok_or_else(|| "the reference's own words are not sound".to_string())
+    }
+
+    fn next_call(&mut self) -> Call {
+        if self.chance.one_in(60) {
+            return newcomer(&mut self.chance, &self.mux);
+        }
+        match self.kind {
+            Kind::Bursts => self.burst(),
+            Kind::Edge => self.edge(),
+            Kind::Full if !self.chance.one_in(8) => offer(&mut self.chance, &self.mux),
+            _ if self.chance.one_in(2) => offer(&mut self.chance, &self.mux),
+            _ => Call::Step,
+        }
+    }
+
+    /// Each connection's longest packet, twice over, where a turn is near; then a step.
+    fn burst(&mut self) -> Call {
+        let standing = self.mux.connections.len();
+        let turn_near = self.mux.counter % self.mux.interval == 0 || (self.mux.counter + 1) % self.mux.interval == 0;
+        if turn_near && self.offered < 2 * standing {
+            return self.offer_longest(self.offered % standing);
+        }
+        self.step()
+    }
+
+    /// Each packet that fits, and now and then one that does not; then a step.
+    fn edge(&mut self) -> Call {
+        while self.offered < 3 * self.mux.connections.len() {
+            let at = self.offered / 3;
+            if self.mux.fits(at as u64 + 1) || self.chance.one_in(10) {
+                return self.offer_longest(at);
+            }
+            self.offered += 1;
+        }
+        self.step()
+    }
+
+    fn offer_longest(&mut self, at: usize) -> Call {
+        self.offered += 1;
+        Call::Offer(at as u32 + 1, self.mux.connections[at].longest as u32)
+    }
+
+    fn step(&mut self) -> Call {
+        self.offered = 0;
+        Call::Step
+    }
+
+    /// The same box later by whole intervals, so that every rank grows alike and its counter is near the end.
+    fn go_near_the_end(&mut self) {
+        let room = LAST_SLOT - self.chance.below(40) - self.mux.counter;
+        let later = room / self.mux.interval * self.mux.interval;
+        self.mux.counter += later;
+        self.mux.slots.iter_mut().flatten().for_each(|slot| *slot += later as i64);
+        self.mux.waiting.iter_mut().for_each(|packet| packet.arrival += later);
+        if let Some((packet, _)) = &mut self.mux.link {
+            packet.arrival += later;
+        }
+        let mut moved = self.trial.words().to_vec();
+        words::write(&self.mux, &mut moved);
+        self.trial.put(&moved);
+    }
+}
