@@ -1,7 +1,11 @@
 //! Tries the library by chance. `cabinet-random [SEED]`: one line for each part, or the failing call and exit status 1.
 
 mod damaged;
+mod lengths;
+mod plan_files;
 mod runs;
+#[cfg(feature = "whole_run")]
+mod whole;
 
 use std::process::ExitCode;
 use std::time::Instant;
@@ -11,7 +15,16 @@ const SEED: u64 = 20_261_115;
 /// A part gives its counts in one line, or says what failed.
 type Part = fn(u64) -> Result<String, String>;
 
-const PARTS: &[(&str, Part)] = &[("runs", runs::part), ("damaged states", damaged::part)];
+const PARTS: &[(&str, Part)] = &[
+    ("runs", runs::part),
+    ("damaged states", damaged::part),
+    ("plans read", plan_files::reading),
+    ("tables", plan_files::tables_of_any_bytes),
+    ("plans written", plan_files::writing),
+    ("lengths", lengths::part),
+    #[cfg(feature = "whole_run")]
+    ("whole runs", whole::part),
+];
 
 fn main() -> ExitCode {
     let seed = match std::env::args().nth(1).map(|text| text.parse()) {
