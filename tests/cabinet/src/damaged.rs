@@ -8,7 +8,7 @@ use cabinet::trial::Trial;
 use reference::words::BOX_WORDS;
 use reference::Multiplexer;
 
-const STATES: u64 = 2_500;
+const STATES: u64 = 5_000;
 const DAMAGES: u64 = 400;
 /// Of each kind, sound and not, this share at least: one in so many.
 const SHARE: u64 = 10;

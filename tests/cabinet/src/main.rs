@@ -16,12 +16,12 @@ const SEED: u64 = 20_261_115;
 type Part = fn(u64) -> Result<String, String>;
 
 const PARTS: &[(&str, Part)] = &[
+    ("lengths", lengths::part),
     ("runs", runs::part),
     ("damaged states", damaged::part),
     ("plans read", plan_files::reading),
     ("tables", plan_files::tables_of_any_bytes),
     ("plans written", plan_files::writing),
-    ("lengths", lengths::part),
     #[cfg(feature = "whole_run")]
     ("whole runs", whole::part),
 ];

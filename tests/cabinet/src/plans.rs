@@ -57,8 +57,8 @@ pub fn runnable(chance: &mut Chance) -> Plan {
     }
     let count = chance.below(120);
     let mut arrivals = arrivals(chance, count);
-    if chance.one_in(16) {
-        // a run of few slots, since each costs a test of soundness
+    if !chance.one_in(60) {
+        // a run of few slots, since each of a million costs a test of soundness
         let first = arrivals.first().map_or(0, |a| a[0]);
         arrivals.iter_mut().for_each(|a| a[0] -= first);
     }
@@ -72,7 +72,7 @@ pub fn runnable(chance: &mut Chance) -> Plan {
 }
 
 pub fn word_of(bytes: &[u8], place: usize) -> u32 {
-    plan::words(&bytes[4 * place..4 * place + 4])[0]
+    plan::word(&bytes[4 * place..])
 }
 
 pub fn put_word(bytes: &mut [u8], place: usize, word: u32) {

@@ -1,16 +1,48 @@
 //! Runs of calls, each compared with the reference: the answer, every field, and every word.
 
 use cabinet::boxes::{any_sound, free_words, newcomer, offer, words_of, Settings};
-use cabinet::call::Call;
+use cabinet::call::{Call, Outcome};
 use cabinet::chance::Chance;
 use cabinet::trial::{Tally, Trial};
 use reference::words::{self, BOX_WORDS};
 use reference::{Connection, Multiplexer, LAST_SLOT};
 
-const RUNS: u64 = 100_000;
+const RUNS: u64 = 200_000;
 /// Every answer that a call on a box can give, but 1, which the damaged states try.
 const ANSWERS: [usize; 12] = [0, 2, 3, 4, 5, 6, 7, 8, 9, 10, 11, 12];
 const LEAST: u64 = 500;
+
+/// What was seen in all runs.
+#[derive(Default)]
+struct Seen {
+    answers: Tally,
+    taken: u64,
+    accepted: u64,
+    departed: u64,
+}
+
+impl Seen {
+    fn see(&mut self, call: Call, outcome: Outcome) {
+        self.answers.count(outcome.number);
+        let done = (outcome.number == 0) as u64;
+        match call {
+            Call::Admit(_) => self.taken += done,
+            Call::Offer(..) => self.accepted += done,
+            // a departure is never at slot 0
+            Call::Step => self.departed += (outcome.fields[4] > 0) as u64,
+            Call::IsSound => {}
+        }
+    }
+
+    fn line(&self) -> Result<String, String> {
+        let Seen { answers, taken, accepted, departed } = self;
+        let counts = answers.line(&ANSWERS, LEAST)?;
+        Ok(format!(
+            "{} calls, {taken} connections taken, {accepted} packets accepted, {departed} departed, answers {counts}",
+            answers.calls()
+        ))
+    }
+}
 
 #[derive(Clone, Copy, Debug)]
 enum Kind {
@@ -47,21 +79,21 @@ struct Run<'a> {
     mux: Multiplexer,
     trial: Trial,
     chance: Chance,
-    tally: &'a mut Tally,
+    seen: &'a mut Seen,
     /// how many offers were made at this slot
     offered: usize,
 }
 
 pub fn part(seed: u64) -> Result<String, String> {
-    let mut tally = Tally::default();
+    let mut seen = Seen::default();
     for run in 0..RUNS {
         let kind = kind(run);
-        one_run(kind, Chance::new(seed, 1, run), &mut tally).map_err(|what| format!("run {run}, {kind:?}: {what}"))?;
+        one_run(kind, Chance::new(seed, 1, run), &mut seen).map_err(|what| format!("run {run}, {kind:?}: {what}"))?;
     }
-    Ok(format!("{RUNS} runs, {} calls, answers {}", tally.calls(), tally.line(&ANSWERS, LEAST)?))
+    Ok(format!("{RUNS} runs, {}", seen.line()?))
 }
 
-fn one_run(kind: Kind, mut chance: Chance, tally: &mut Tally) -> Result<(), String> {
+fn one_run(kind: Kind, mut chance: Chance, seen: &mut Seen) -> Result<(), String> {
     let surplus = chance.below(4) as usize;
     let (mux, trial) = match kind {
         Kind::AnySound => {
@@ -69,9 +101,9 @@ fn one_run(kind: Kind, mut chance: Chance, tally: &mut Tally) -> Result<(), Stri
             constructed(&mut chance, surplus, |chance| any_sound(chance, waiting))
         }
         Kind::Full => constructed(&mut chance, surplus, nearly_full),
-        _ => opened(&mut chance, surplus, tally)?,
+        _ => opened(&mut chance, surplus, &mut seen.answers)?,
     };
-    let mut run = Run { kind, mux, trial, chance, tally, offered: 0 };
+    let mut run = Run { kind, mux, trial, chance, seen, offered: 0 };
     run.admissions()?;
     if let Kind::NearEnd = kind {
         run.go_near_the_end();
@@ -116,9 +148,9 @@ fn nearly_full(chance: &mut Chance) -> Multiplexer {
 
 impl Run<'_> {
     fn call(&mut self, call: Call) -> Result<u32, String> {
-        let number = self.trial.call(call, &mut self.mux)?.number;
-        self.tally.count(number);
-        Ok(number)
+        let outcome = self.trial.call(call, &mut self.mux)?;
+        self.seen.see(call, outcome);
+        Ok(outcome.number)
     }
 
     fn admissions(&mut self) -> Result<(), String> {
@@ -140,6 +172,8 @@ impl Run<'_> {
     fn calls(&mut self) -> Result<(), String> {
         let most = match self.kind {
             Kind::Full if self.mux.waiting.is_empty() => 1200,
+            // long enough for the places of the queues to wrap round
+            _ if self.chance.one_in(500) => 2000,
             _ => self.chance.between(20, 100),
         };
         let mut ended = 0;

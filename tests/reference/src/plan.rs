@@ -11,8 +11,13 @@ pub struct Plan {
     pub arrivals: Vec<[u32; 3]>,
 }
 
+/// The word whose first byte is the first of these.
+pub fn word(bytes: &[u8]) -> u32 {
+    u32::from_le_bytes([bytes[0], bytes[1], bytes[2], bytes[3]])
+}
+
 pub fn words(bytes: &[u8]) -> Vec<u32> {
-    bytes.chunks_exact(4).map(|c| u32::from_le_bytes([c[0], c[1], c[2], c[3]])).collect()
+    bytes.chunks_exact(4).map(word).collect()
 }
 
 /// The contents of a plan, or its refusal.

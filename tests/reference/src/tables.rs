@@ -8,7 +8,7 @@ pub fn entry<const N: usize>(table: &[u8], place: usize) -> [u32; N] {
     for (i, word) in words.iter_mut().enumerate() {
         let at = 4 * (place as u128 * N as u128 + i as u128);
         if at + 4 <= table.len() as u128 {
-            *word = plan::words(&table[at as usize..at as usize + 4])[0];
+            *word = plan::word(&table[at as usize..]);
         }
     }
     words
@@ -17,11 +17,12 @@ pub fn entry<const N: usize>(table: &[u8], place: usize) -> [u32; N] {
 /// The stretch of a slot in a table of arrivals, as its first byte and its size: from the first entry, at the place `from` or after it,
 /// that is not before the slot, up to the next one that is after it. 0 and 0 where it is empty.
 pub fn stretch(arrivals: &[u8], from: usize, slot: u32) -> (usize, usize) {
-    let slots: Vec<u32> = arrivals.chunks_exact(12).map(|a| plan::words(a)[0]).collect();
-    let Some(first) = (from..slots.len()).find(|&i| slots[i] >= slot) else {
+    let count = arrivals.len() / 12;
+    let slot_of = |i: usize| plan::word(&arrivals[12 * i..]);
+    let Some(first) = (from..count).find(|&i| slot_of(i) >= slot) else {
         return (0, 0);
     };
-    let after = (first..slots.len()).find(|&i| slots[i] > slot).unwrap_or(slots.len());
+    let after = (first..count).find(|&i| slot_of(i) > slot).unwrap_or(count);
     if after == first {
         return (0, 0);
     }
