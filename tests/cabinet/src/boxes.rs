@@ -134,9 +134,9 @@ pub fn offer(chance: &mut Chance, mux: &Multiplexer) -> Call {
     Call::Offer(n as u32, units)
 }
 
-/// Any sound box in which so many packets wait, if a connection stands. It need not be one that a run reaches: connections that no
+/// Any box in which so many packets wait, sound if they are at most 1,024. It need not be one that a run reaches: connections that no
 /// admission takes, any allowance, packets that are late.
-pub fn any_sound(chance: &mut Chance, waiting: u64) -> Multiplexer {
+pub fn any_with_waiting(chance: &mut Chance, waiting: u64) -> Multiplexer {
     let mut mux = Settings::any(chance).opened();
     mux.counter = any_counter(chance, mux.interval);
     let connections = chance.pick(&[1, 2, 3, 8, 17, 31, 32, 32]) - (waiting == 0 && chance.one_in(4)) as u64;
@@ -145,7 +145,7 @@ pub fn any_sound(chance: &mut Chance, waiting: u64) -> Multiplexer {
         mux.slots.push(any_history(chance, &c, mux.counter));
         mux.connections.push(c);
     }
-    for _ in 0..waiting.min(1024 * connections) {
+    for _ in 0..waiting {
         let packet = any_packet(chance, &mux);
         mux.waiting.push(packet);
     }

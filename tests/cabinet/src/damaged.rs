@@ -1,7 +1,7 @@
 //! Sound states with one to four words changed: each call answers 1 exactly where the reference finds the state not sound, and where it
 //! is still sound, what the reference answers.
 
-use cabinet::boxes::{any_sound, newcomer, offer, words_of, EDGES};
+use cabinet::boxes::{any_with_waiting, newcomer, offer, words_of, EDGES};
 use cabinet::call::Call;
 use cabinet::chance::Chance;
 use cabinet::trial::Trial;
@@ -24,7 +24,7 @@ pub fn part(seed: u64) -> Result<String, String> {
     for state in 0..STATES {
         let mut chance = Chance::new(seed, 2, state);
         let waiting = waiting_of(&mut chance, state);
-        let mux = any_sound(&mut chance, waiting);
+        let mux = any_with_waiting(&mut chance, waiting);
         let words = words_of(&mut chance, &mux, state as usize % 3);
         let mut trial = Trial::new(words.clone());
         for n in 0..DAMAGES {
@@ -63,6 +63,9 @@ fn nth_call(n: u64, chance: &mut Chance, mux: &Multiplexer) -> Call {
 
 /// Changes one to four words; their places.
 fn damage(chance: &mut Chance, mux: &Multiplexer, trial: &mut Trial) -> Vec<usize> {
+    if chance.one_in(100) {
+        return wrap_lengths(chance, trial);
+    }
     let count = chance.pick(&[1, 1, 1, 2, 2, 3, 4]);
     let mut places = vec![];
     while places.len() < count {
@@ -80,6 +83,16 @@ fn damage(chance: &mut Chance, mux: &Multiplexer, trial: &mut Trial) -> Vec<usiz
         places.push(place);
     }
     places
+}
+
+/// Two lengths of queues grow so that the sum of all is the same modulo 2^32.
+fn wrap_lengths(chance: &mut Chance, trial: &mut Trial) -> Vec<usize> {
+    let first = LENGTHS + chance.below(64) as usize;
+    let second = LENGTHS + (first - LENGTHS + chance.between(1, 63) as usize) % 64;
+    for place in [first, second] {
+        trial.put_word(place, trial.words()[place] ^ 1 << 31);
+    }
+    vec![first, second]
 }
 
 /// A word of the tables, of a packet that waits, or of a free one.

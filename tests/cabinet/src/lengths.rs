@@ -1,6 +1,6 @@
 //! Lengths one short and one long.
 
-use cabinet::boxes::{any_sound, free_words, newcomer, offer, words_of};
+use cabinet::boxes::{any_with_waiting, free_words, newcomer, offer, words_of};
 use cabinet::call::Call;
 use cabinet::calls;
 use cabinet::chance::Chance;
@@ -12,6 +12,8 @@ use crate::plan_files;
 
 const STATES: u64 = 2_000;
 const WORDS: [usize; 9] = [0, 1, 11, 274, 275, 4369, 4370, 4371, 4372];
+/// D and a factor, whose product is 1,024 or 1,025, or whose factor is at an edge.
+const BOUNDS: [(u32, u32); 9] = [(256, 4), (16, 64), (64, 16), (205, 5), (41, 25), (25, 41), (1, 63), (1, 64), (1, 0)];
 
 pub fn part(seed: u64) -> Result<String, String> {
     if calls::box_words() != BOX_WORDS {
@@ -19,19 +21,21 @@ pub fn part(seed: u64) -> Result<String, String> {
     }
     let mut tally = Tally::default();
     for state in 0..STATES {
+        let failed = |what| format!("state {state}: {what}");
         let mut chance = Chance::new(seed, 6, state);
-        cut_states(&mut chance, &mut tally)
-            .and_then(|()| openings(&mut chance, &mut tally))
-            .map_err(|what| format!("state {state}: {what}"))?;
+        cut_states(&mut chance, &mut tally).map_err(failed)?;
+        one_too_many(&mut chance, &mut tally).map_err(failed)?;
+        openings(&mut chance, &mut tally).map_err(failed)?;
     }
     plan_sizes(&mut tally)?;
+    plan_counts(&mut tally)?;
     Ok(format!("{} calls at the edges of lengths, answers {}", tally.calls(), tally.line(&[0, 1, 2, 13, 15, 17], 1)?))
 }
 
 /// A sound state, lent short, exact and long: every call answers 1 where it is short.
 fn cut_states(chance: &mut Chance, tally: &mut Tally) -> Result<(), String> {
     let waiting = chance.pick(&[0, 0, 3, 1024]);
-    let mux = any_sound(chance, waiting);
+    let mux = any_with_waiting(chance, waiting);
     let words = words_of(chance, &mux, 1);
     for count in WORDS {
         for call in [Call::IsSound, Call::Step, offer(chance, &mux), newcomer(chance, &mux)] {
@@ -41,6 +45,19 @@ fn cut_states(chance: &mut Chance, tally: &mut Tally) -> Result<(), String> {
             }
             tally.count(!sound as u32);
         }
+    }
+    Ok(())
+}
+
+/// 1,025 waiting packets, in words enough for them, are not sound.
+fn one_too_many(chance: &mut Chance, tally: &mut Tally) -> Result<(), String> {
+    let mux = any_with_waiting(chance, 1025);
+    let mut trial = Trial::new(words_of(chance, &mux, 4));
+    for call in [Call::IsSound, Call::Step, offer(chance, &mux), newcomer(chance, &mux)] {
+        if trial.call_on_any(call)? {
+            return Err("1,025 waiting packets were found sound".into());
+        }
+        tally.count(1);
     }
     Ok(())
 }
@@ -56,6 +73,10 @@ fn openings(chance: &mut Chance, tally: &mut Tally) -> Result<(), String> {
                 tally.count(number);
             }
         }
+    }
+    for (interval, factor) in BOUNDS {
+        let (number, _) = Trial::new(free_words(chance, BOX_WORDS)).open(interval, 1, &[factor])?;
+        tally.count(number);
     }
     Ok(())
 }
@@ -75,6 +96,26 @@ fn plan_sizes(tally: &mut Tally) -> Result<(), String> {
             put_word(&mut bytes, 0, size as u32 + 4);
             solve_sum(&mut bytes);
             tally.count(plan_files::read(&bytes)?);
+        }
+    }
+    Ok(())
+}
+
+/// Plans whose layout is right, with counts one below, at and one above the most that are allowed.
+fn plan_counts(tally: &mut Tally) -> Result<(), String> {
+    for classes in 7..=9 {
+        for connections in 31..=33 {
+            for arrivals in 4095..=4097 {
+                let at = 40 + 4 * classes;
+                let size = at + 16 * connections + 12 * arrivals;
+                let mut bytes = vec![0; size as usize];
+                let header = [size, 4, 8, classes, 40, connections, at, arrivals, at + 16 * connections];
+                for (place, word) in header.into_iter().enumerate() {
+                    put_word(&mut bytes, place, word);
+                }
+                solve_sum(&mut bytes);
+                tally.count(plan_files::read(&bytes)?);
+            }
         }
     }
     Ok(())

@@ -7,6 +7,7 @@ mod runs;
 #[cfg(feature = "whole_run")]
 mod whole;
 
+use std::panic::catch_unwind;
 use std::process::ExitCode;
 use std::time::Instant;
 
@@ -37,7 +38,9 @@ fn main() -> ExitCode {
     };
     for (name, part) in PARTS {
         let start = Instant::now();
-        match part(seed) {
+        // a panic, of the reference on words that it takes for sound, is a failure with a seed too
+        let done = catch_unwind(|| part(seed)).unwrap_or_else(|_| Err("it panicked, as said above".into()));
+        match done {
             Ok(counts) => println!("{name}: {counts}; seed {seed}, {:.1} s", start.elapsed().as_secs_f64()),
             Err(what) => {
                 println!("FAILED: {name}, seed {seed}: {what}");

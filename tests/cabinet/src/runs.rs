@@ -1,6 +1,6 @@
 //! Runs of calls, each compared with the reference: the answer, every field, and every word.
 
-use cabinet::boxes::{any_sound, free_words, newcomer, offer, words_of, Settings};
+use cabinet::boxes::{any_with_waiting, free_words, newcomer, offer, words_of, Settings};
 use cabinet::call::{Call, Outcome};
 use cabinet::chance::Chance;
 use cabinet::trial::{Tally, Trial};
@@ -98,7 +98,7 @@ fn one_run(kind: Kind, mut chance: Chance, seen: &mut Seen) -> Result<(), String
     let (mux, trial) = match kind {
         Kind::AnySound => {
             let waiting = chance.pick(&[0, 1, 2, 5, 20, 60]);
-            constructed(&mut chance, surplus, |chance| any_sound(chance, waiting))
+            constructed(&mut chance, surplus, |chance| any_with_waiting(chance, waiting))
         }
         Kind::Full => constructed(&mut chance, surplus, nearly_full),
         _ => opened(&mut chance, surplus, &mut seen.answers)?,
