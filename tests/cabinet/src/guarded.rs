@@ -1,7 +1,7 @@
 //! What is lent to the library lies between guards, whose pattern no call may touch.
 
-/// Guard entries on each side.
-pub const GUARDS: usize = 8;
+/// Guard entries on each side; an odd number, so that lent bytes are not aligned as words are.
+pub const GUARDS: usize = 9;
 
 /// Entries that can stand in a guard: the pattern differs from place to place, so that a shifted copy is seen too.
 pub trait Pattern: Copy + PartialEq {

@@ -5,7 +5,8 @@ use cabinet::call::Call;
 use cabinet::calls;
 use cabinet::chance::Chance;
 use cabinet::plans::{put_word, solve_sum};
-use cabinet::trial::{Tally, Trial};
+use cabinet::tally::Tally;
+use cabinet::trial::Trial;
 use reference::words::BOX_WORDS;
 
 use crate::plan_files;

@@ -6,4 +6,5 @@ pub mod calls;
 pub mod chance;
 pub mod guarded;
 pub mod plans;
+pub mod tally;
 pub mod trial;

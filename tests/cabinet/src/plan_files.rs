@@ -5,7 +5,7 @@ use cabinet::calls::{self, Answered};
 use cabinet::chance::Chance;
 use cabinet::guarded::Guarded;
 use cabinet::plans::{damaged, readable, LAST_ARRIVAL};
-use cabinet::trial::Tally;
+use cabinet::tally::Tally;
 use reference::plan::{self, Plan};
 use reference::tables;
 

@@ -3,7 +3,8 @@
 use cabinet::boxes::{any_with_waiting, free_words, newcomer, offer, words_of, Settings};
 use cabinet::call::{Call, Outcome};
 use cabinet::chance::Chance;
-use cabinet::trial::{Tally, Trial};
+use cabinet::tally::Tally;
+use cabinet::trial::Trial;
 use reference::words::{self, BOX_WORDS};
 use reference::{Connection, Multiplexer, LAST_SLOT};
 
@@ -106,9 +107,13 @@ fn one_run(kind: Kind, mut chance: Chance, seen: &mut Seen) -> Result<(), String
     let mut run = Run { kind, mux, trial, chance, seen, offered: 0 };
     run.admissions()?;
     if let Kind::NearEnd = kind {
+        run.calls(20)?;
         run.go_near_the_end();
     }
-    run.calls()
+    let most = run.length();
+    run.calls(most)?;
+    run.call(Call::IsSound)?;
+    words::read(run.trial.words()).map(|_| ()).ok_or_else(|| "the reference's own words are not sound".to_string())
 }
 
 fn constructed(chance: &mut Chance, surplus: usize, make: impl Fn(&mut Chance) -> Multiplexer) -> (Multiplexer, Trial) {
@@ -150,7 +155,26 @@ impl Run<'_> {
     fn call(&mut self, call: Call) -> Result<u32, String> {
         let outcome = self.trial.call(call, &mut self.mux)?;
         self.seen.see(call, outcome);
+        if !matches!(self.kind, Kind::AnySound | Kind::Full) {
+            self.in_time(outcome)?;
+        }
         Ok(outcome.number)
+    }
+
+    /// In a run from a new box no turn is blocked, no store is full, and no packet leaves after its bound.
+    fn in_time(&self, outcome: Outcome) -> Result<(), String> {
+        if outcome.number == 10 || outcome.number == 11 {
+            return Err(format!("a run from a new box answered {}", outcome.number));
+        }
+        let [_, _, connection, arrival, departure] = outcome.fields.map(u64::from);
+        if departure > 0 {
+            let class = self.mux.connections[connection as usize - 1].class;
+            let bound = self.mux.factors[class as usize - 1] * self.mux.interval;
+            if departure > arrival + bound {
+                return Err(format!("a packet that came at {arrival} with the bound {bound} left at {departure}"));
+            }
+        }
+        Ok(())
     }
 
     fn admissions(&mut self) -> Result<(), String> {
@@ -169,25 +193,28 @@ impl Run<'_> {
         Ok(())
     }
 
-    fn calls(&mut self) -> Result<(), String> {
-        let most = match self.kind {
+    /// How many calls are made after the admissions.
+    fn length(&mut self) -> u64 {
+        match self.kind {
             Kind::Full if self.mux.waiting.is_empty() => 1200,
             // long enough for the places of the queues to wrap round
             _ if self.chance.one_in(500) => 2000,
             _ => self.chance.between(20, 100),
-        };
-        let mut ended = 0;
+        }
+    }
+
+    fn calls(&mut self, most: u64) -> Result<(), String> {
+        let mut refused = 0;
         for _ in 0..most {
             let call = self.next_call();
             let number = self.call(call)?;
-            // a step that is refused is refused for ever, unless the packets in its way go
-            ended += (number == 11 || number == 12) as u32;
-            if ended == 3 {
+            // a step that is refused stays refused
+            refused += (number == 11 || number == 12) as u32;
+            if refused == 3 {
                 break;
             }
         }
-        self.call(Call::IsSound)?;
-        words::read(self.trial.words()).map(|_| ()).ok_or_else(|| "the reference's own words are not sound".to_string())
+        Ok(())
     }
 
     fn next_call(&mut self) -> Call {
