@@ -77,7 +77,8 @@ impl Settings {
         self
     }
 
-    fn opened(&self) -> Multiplexer {
+    /// The new box of settings in range.
+    pub fn opened(&self) -> Multiplexer {
         let factors: Vec<u64> = self.factors.iter().map(|&f| f as u64).collect();
         Multiplexer::open(self.interval as u64, self.cycle as u64, &factors).expect("settings in range")
     }
@@ -110,14 +111,18 @@ fn connection(chance: &mut Chance, mux: &Multiplexer) -> Connection {
     Connection { class, longest, burst, period: divisor(chance, mux.cycle) }
 }
 
-/// A newcomer, mostly in range.
-pub fn newcomer(chance: &mut Chance, mux: &Multiplexer) -> Call {
+/// Class, s, b and T of a newcomer, mostly in range.
+pub fn asked(chance: &mut Chance, mux: &Multiplexer) -> [u32; 4] {
     let c = connection(chance, mux);
     let mut asked = [c.class, c.longest, c.burst, c.period].map(|n| n as u32);
     if chance.one_in(10) {
         asked[chance.below(4) as usize] = chance.pick(&EDGES);
     }
-    Call::Admit(asked)
+    asked
+}
+
+pub fn newcomer(chance: &mut Chance, mux: &Multiplexer) -> Call {
+    Call::Admit(asked(chance, mux))
 }
 
 /// An offer, mostly of a connection that stands and of a permitted length.

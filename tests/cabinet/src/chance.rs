@@ -7,12 +7,12 @@ impl Chance {
     pub fn new(seed: u64, part: u64, run: u64) -> Chance {
         let mut mixed = Chance(seed);
         for n in [part, run] {
-            mixed.0 = mixed.next() ^ n;
+            mixed.0 = mixed.draw() ^ n;
         }
         mixed
     }
 
-    pub fn next(&mut self) -> u64 {
+    pub fn draw(&mut self) -> u64 {
         self.0 = self.0.wrapping_add(0x9E37_79B9_7F4A_7C15);
         let mut z = self.0;
         z = (z ^ (z >> 30)).wrapping_mul(0xBF58_476D_1CE4_E5B9);
@@ -21,11 +21,11 @@ impl Chance {
     }
 
     pub fn word(&mut self) -> u32 {
-        self.next() as u32
+        self.draw() as u32
     }
 
     pub fn below(&mut self, n: u64) -> u64 {
-        self.next() % n
+        self.draw() % n
     }
 
     pub fn between(&mut self, low: u64, high: u64) -> u64 {

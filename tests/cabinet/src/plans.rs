@@ -1,10 +1,8 @@
 //! Plan files by chance: good ones, and damaged ones.
 
-use crate::boxes::{newcomer, Settings, EDGES};
-use crate::call::Call;
+use crate::boxes::{asked, Settings, EDGES};
 use crate::chance::Chance;
 use reference::plan::{self, Plan};
-use reference::Multiplexer;
 
 pub const LAST_ARRIVAL: u32 = 1_000_000;
 pub const MOST_ARRIVALS: u64 = 4096;
@@ -47,14 +45,8 @@ fn arrivals(chance: &mut Chance, count: u64) -> Vec<[u32; 3]> {
 /// A plan whose box opens and whose connections and arrivals are mostly in range, so that it runs.
 pub fn runnable(chance: &mut Chance) -> Plan {
     let settings = if chance.one_in(20) { Settings::any(chance) } else { Settings::small(chance) };
-    let factors: Vec<u64> = settings.factors.iter().map(|&f| f as u64).collect();
-    let mux = Multiplexer::open(settings.interval as u64, settings.cycle as u64, &factors).expect("settings in range");
-    let mut connections = vec![];
-    for _ in 0..chance.below(12) {
-        if let Call::Admit(asked) = newcomer(chance, &mux) {
-            connections.push(asked);
-        }
-    }
+    let mux = settings.opened();
+    let connections: Vec<[u32; 4]> = (0..chance.below(12)).map(|_| asked(chance, &mux)).collect();
     let count = chance.below(120);
     let mut arrivals = arrivals(chance, count);
     if !chance.one_in(60) {

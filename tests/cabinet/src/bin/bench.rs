@@ -66,7 +66,7 @@ fn on_a_box(
     Row { name, library: best[0], reference: best[1], soundness: Some(best[2]) }
 }
 
-/// Connections of long bursts, all of one class of the two.
+/// A box with so many connections of long bursts, all of one class.
 fn box_of(factors: &[u64], class: u64, connections: u64) -> Multiplexer {
     let mut mux = Multiplexer::open(256, 4096, factors).expect("settings in range");
     for _ in 0..connections {
