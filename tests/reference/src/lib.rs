@@ -3,6 +3,8 @@
 
 pub mod plan;
 pub mod run;
+pub mod tables;
+pub mod words;
 
 pub const LAST_SLOT: u64 = 4_000_000_000;
 
@@ -28,8 +30,8 @@ pub struct Multiplexer {
     pub cycle: u64,
     pub factors: Vec<u64>,
     pub connections: Vec<Connection>,
-    /// The slots of the accepted packets of each connection.
-    pub slots: Vec<Vec<u64>>,
+    /// The slots of the accepted packets of each connection. In a box that is read from words they may lie before slot 0.
+    pub slots: Vec<Vec<i64>>,
     pub counter: u64,
     pub accepted: u64,
     pub link: Option<(Packet, u64)>,
@@ -146,11 +148,27 @@ impl Multiplexer {
         let slots = &self.slots[n as usize - 1];
         for (i, &x) in slots.iter().enumerate() {
             let count = (slots.len() - i) as u64 + 1;
-            if count > c.burst + (self.counter - x) / c.period {
+            if count > c.burst + (self.counter as i64 - x) as u64 / c.period {
                 return false;
             }
         }
         c.burst >= 1
+    }
+
+    /// What the last accepted packet of a connection left of its allowance: the slot at which one more packet than now fits, and how
+    /// many still fitted at its own slot. 0 and b before the first.
+    pub fn allowance(&self, n: u64) -> (u64, u64) {
+        let c = &self.connections[n as usize - 1];
+        let slots = &self.slots[n as usize - 1];
+        let Some(&last) = slots.last() else {
+            return (0, c.burst);
+        };
+        // each stretch up to now that starts at an accepted packet, and the packets that it has
+        let stretches = || slots.iter().enumerate().map(|(i, &x)| (x, (slots.len() - i) as u64));
+        let credit = stretches().map(|(x, count)| c.burst + (last - x) as u64 / c.period - count).min().unwrap_or(c.burst);
+        let one_more = |(x, count): (i64, u64)| x + (c.period * (count + credit + 1).saturating_sub(c.burst)) as i64;
+        let next = stretches().map(one_more).max().unwrap_or(0);
+        (next as u64, credit)
     }
 
     /// The answer and the serial.
@@ -168,7 +186,7 @@ impl Multiplexer {
             return (10, 0);
         }
         self.accepted += 1;
-        self.slots[n as usize - 1].push(self.counter);
+        self.slots[n as usize - 1].push(self.counter as i64);
         self.waiting.push(Packet { serial: self.accepted, connection: n, units, arrival: self.counter });
         (0, self.accepted)
     }

@@ -11,8 +11,13 @@ pub struct Plan {
     pub arrivals: Vec<[u32; 3]>,
 }
 
+/// The word whose first byte is the first of these.
+pub fn word(bytes: &[u8]) -> u32 {
+    u32::from_le_bytes([bytes[0], bytes[1], bytes[2], bytes[3]])
+}
+
 pub fn words(bytes: &[u8]) -> Vec<u32> {
-    bytes.chunks_exact(4).map(|c| u32::from_le_bytes([c[0], c[1], c[2], c[3]])).collect()
+    bytes.chunks_exact(4).map(word).collect()
 }
 
 /// The contents of a plan, or its refusal.
@@ -62,10 +67,39 @@ pub fn write(p: &Plan) -> Result<Vec<u8>, u64> {
     let at = 40 + 4 * p.factors.len() as u32;
     let arrivals_at = at + 16 * p.connections.len() as u32;
     let size = arrivals_at + 12 * p.arrivals.len() as u32;
-    let mut w = vec![size, p.interval, p.cycle, p.factors.len() as u32, 40, p.connections.len() as u32, at, p.arrivals.len() as u32, arrivals_at, 0];
+    let mut w = vec![
+        size,
+        p.interval,
+        p.cycle,
+        p.factors.len() as u32,
+        40,
+        p.connections.len() as u32,
+        at,
+        p.arrivals.len() as u32,
+        arrivals_at,
+        0,
+    ];
     w.extend(&p.factors);
     w.extend(p.connections.iter().flatten());
     w.extend(p.arrivals.iter().flatten());
     w[9] = 0u32.wrapping_sub(w.iter().fold(0u32, |a, &b| a.wrapping_add(b)));
     Ok(w.iter().flat_map(|x| x.to_le_bytes()).collect())
+}
+
+/// The bytes of a plan whose tables are lent as words, into a buffer of so many bytes, or the refusal.
+pub fn write_lent(header: [u32; 2], factors: &[u32], connections: &[u32], arrivals: &[u32], room: usize) -> Result<Vec<u8>, u64> {
+    if connections.len() % 4 != 0 || arrivals.len() % 3 != 0 {
+        return Err(15);
+    }
+    let bytes = write(&Plan {
+        interval: header[0],
+        cycle: header[1],
+        factors: factors.to_vec(),
+        connections: connections.chunks(4).map(|c| [c[0], c[1], c[2], c[3]]).collect(),
+        arrivals: arrivals.chunks(3).map(|a| [a[0], a[1], a[2]]).collect(),
+    })?;
+    if bytes.len() > room {
+        return Err(17);
+    }
+    Ok(bytes)
 }

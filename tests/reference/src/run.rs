@@ -1,17 +1,14 @@
 //! The whole run of a plan, from its bytes to the text.
 
-use crate::{plan, Multiplexer, Stepped};
+use crate::plan::{self, Plan};
+use crate::{Multiplexer, Stepped};
 use std::fmt::Write;
 
 pub fn text(bytes: &[u8]) -> String {
-    let plan = match plan::read(bytes) {
+    let opened = plan::read(bytes).and_then(|plan| Ok((open(&plan)?, plan)));
+    let (mut mux, plan) = match opened {
         Err(n) => return format!("REFUSED {n}\n"),
-        Ok(p) => p,
-    };
-    let factors: Vec<u64> = plan.factors.iter().map(|&f| f as u64).collect();
-    let mut mux = match Multiplexer::open(plan.interval as u64, plan.cycle as u64, &factors) {
-        Err(n) => return format!("REFUSED {n}\n"),
-        Ok(m) => m,
+        Ok(pair) => pair,
     };
     let mut out = String::new();
     let mut numbers = vec![];
@@ -20,13 +17,20 @@ pub fn text(bytes: &[u8]) -> String {
         numbers.push(number);
         writeln!(out, "ADMIT {} {answer} {t}", i + 1).unwrap();
     }
+    slots(&plan, &mut mux, &numbers, &mut out);
+    out
+}
+
+fn open(plan: &Plan) -> Result<Multiplexer, u64> {
+    let factors: Vec<u64> = plan.factors.iter().map(|&f| f as u64).collect();
+    Multiplexer::open(plan.interval as u64, plan.cycle as u64, &factors)
+}
+
+/// Slot after slot, until no arrivals remain and the box is empty or a step is refused.
+fn slots(plan: &Plan, mux: &mut Multiplexer, numbers: &[u64], out: &mut String) {
     let mut next = 0;
     let mut departed = 0;
-    loop {
-        if next == plan.arrivals.len() && mux.waiting.is_empty() && mux.link.is_none() {
-            writeln!(out, "END {} {} {departed}", mux.counter, mux.accepted).unwrap();
-            return out;
-        }
+    while next < plan.arrivals.len() || !mux.waiting.is_empty() || mux.link.is_some() {
         while next < plan.arrivals.len() && plan.arrivals[next][0] as u64 == mux.counter {
             let a = plan.arrivals[next];
             next += 1;
@@ -38,7 +42,7 @@ pub fn text(bytes: &[u8]) -> String {
         match mux.step() {
             Stepped::Refused(n) => {
                 writeln!(out, "STOP {n}").unwrap();
-                return out;
+                return;
             }
             Stepped::Departed { serial, connection, arrival, departure } => {
                 departed += 1;
@@ -48,4 +52,5 @@ pub fn text(bytes: &[u8]) -> String {
             _ => {}
         }
     }
+    writeln!(out, "END {} {} {departed}", mux.counter, mux.accepted).unwrap();
 }
