@@ -36,7 +36,6 @@ mod library {
             size: usize,
             fields: *mut u32,
         ) -> u32;
-        #[cfg(feature = "whole_run")]
         pub fn zeppilorn_run_plan(plan: *const u8, size: usize, text: *mut u8, text_size: usize, fields: *mut u32) -> u32;
     }
 }
@@ -146,7 +145,6 @@ pub fn write_plan(header: [u32; 2], tables: [&[u32]; 3], plan: &mut [u8]) -> Ans
 }
 
 /// The field is the number of bytes of text.
-#[cfg(feature = "whole_run")]
 pub fn run_plan(plan: &[u8], text: &mut [u8]) -> Answered<u32, 1> {
     ask(|fields| unsafe { library::zeppilorn_run_plan(plan.as_ptr(), plan.len(), text.as_mut_ptr(), text.len(), fields) })
 }

@@ -4,7 +4,6 @@ mod damaged;
 mod lengths;
 mod plan_files;
 mod runs;
-#[cfg(feature = "whole_run")]
 mod whole;
 
 use std::panic::catch_unwind;
@@ -23,7 +22,6 @@ const PARTS: &[(&str, Part)] = &[
     ("plans read", plan_files::reading),
     ("tables", plan_files::tables_of_any_bytes),
     ("plans written", plan_files::writing),
-    #[cfg(feature = "whole_run")]
     ("whole runs", whole::part),
 ];
 

@@ -133,7 +133,6 @@ fn offers_before_others() -> Row {
     offers("offer, 1,000 waiting, before them all".into(), &Pair::new(mux), CALLS + 1)
 }
 
-#[cfg(feature = "whole_run")]
 fn whole_run() -> Row {
     let connections = vec![[1, 1, 2, 8], [2, 2, 3, 16], [3, 3, 2, 24], [4, 4, 4, 40], [1, 1, 1, 48]];
     let arrivals = (0..4096).map(|i| [i * 3 / 4, 1 + i * 7 % 11 % 6, 1 + i % 4]).collect();
@@ -171,6 +170,5 @@ fn main() {
         print(&steps(format!("step, {name}"), &pair));
     }
     print(&offers_before_others());
-    #[cfg(feature = "whole_run")]
     print(&whole_run());
 }
