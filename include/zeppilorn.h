@@ -89,7 +89,7 @@ uint32_t zeppilorn_read_plan(const uint8_t *plan, size_t size, uint32_t fields[8
 
 /*
  * An entry of a table, by its place counted from 0. The table is lent as `plan` + its start, with count x 4, 16 or 12 bytes; words past its
- * end read as 0. These three always answer 0.
+ * end, and a last word that is not whole, read as 0. These three always answer 0.
  * A factor: fields[0].
  */
 uint32_t zeppilorn_factor(const uint8_t *classes, size_t size, size_t place, uint32_t fields[1]);
@@ -103,6 +103,7 @@ uint32_t zeppilorn_arrival(const uint8_t *arrivals, size_t size, size_t place, u
 /*
  * The arrivals of one slot, as a stretch of the arrival table; entries before the place `from` are passed over. Who walks the slots in
  * order starts with 0 and adds fields[1] / 12 to `from` each time. The stretch can be lent to zeppilorn_arrival as `arrivals` + fields[0].
+ * It runs from the first entry whose slot is not below `slot` up to the next one above it: all arrivals of the slot, in a plan that reads well.
  * Always answers 0.
  * fields[0]: the first byte of the stretch within the table. fields[1]: its size in bytes. Both are 0 where it is empty.
  */
