@@ -17,14 +17,14 @@ use Rattle.meaning.specs.Calls.{newBox, withStanding, allowance, afterOffer, ch
 use Rattle.meaning.specs.Step.{moved}
 use Rattle.meaning.proofs.Facts.{ConnectionFacts}
 use Rattle.meaning.proofs.Allowances.{Means, full-means, means-later}
-use Rattle.meaning.proofs.RecordFits.{Descending, numberOf, record-answers, record-charged}
+use Rattle.meaning.proofs.RecordFits.{Descending, descending-later, numberOf, record-answers, record-charged}
 use Rattle.guarantees.specs.Runs.{Departure, slotsOf, WithinEnvelope}
 use Rattle.guarantees.proofs.Moves.{Move, refused, joins, accepts, idles, sends, departs, newPacket, Grows, move-grows, accepting, AcceptSays, joining}
 use Rattle.guarantees.proofs.Records.{charged-mine, charged-other, joined-other, joined-allowance, joined-connection}
 use Rattle.guarantees.proofs.Effects.{connection-member}
 use Rattle.guarantees.proofs.Known.{Known}
 use Rattle.guarantees.proofs.Ahead.{KeepsEnvelope}
-use Rattle.guarantees.proofs.Stretches.{slots-mine, slots-other, slots-none, descending-on, fitting-keeps, units-count}
+use Rattle.guarantees.proofs.Stretches.{slots-mine, slots-other, slots-none, fitting-keeps, units-count}
 
 -- What is known of a connection with this contract, this record and these slots of accepted packets, at a slot.
 pub record Meter (c : Connection) (a : Allowance) (slots : List ℕ) (at : ℕ) : Type 0 where
@@ -41,7 +41,7 @@ meter-later : {c : Connection} {a : Allowance} {slots : List ℕ} (at later : �
 meter-later {c} {a} {slots} at later h m =
     record {
       stands-for = means-later c at later a (numberOf (c .period) slots) h (m .stands-for);
-      descends = descending-on at later slots h (m .descends);
+      descends = descending-later at later slots h (m .descends);
       within-may = m .within-may;
     }
 

@@ -36,11 +36,6 @@ slots-none n [] h = refl
 slots-none n (p ∷ H) h =
     rw (ne-eqb (p .connection) n (h p (List·Memᴰ·head refl)), slots-none n H (λ x m. h x (List·Memᴰ·tail m)))
 
--- The slots never rise, and none is after a later slot.
-pub descending-on : (at later : ℕ) (slots : List ℕ) → at ≤ later → Descending at slots → Descending later slots
-descending-on at later [] h d = tt
-descending-on at later (a ∷ slots) h d = (let o = d .0 in omega arith, d .1)
-
 -- Past the last accepted packet a stretch has no more.
 count-shrinks : (top at x y : ℕ) (slots : List ℕ) → Descending top slots → top ≤ at → countIn slots x y ≤ countIn slots x at
 unfolding countIn sumOf

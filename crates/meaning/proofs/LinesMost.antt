@@ -48,7 +48,8 @@ offer-count box n units Offered.WrongLength = omega arith
 offer-count box n units Offered.NotFitting = omega arith
 offer-count box n units Offered.StoreFull = omega arith
 
-offer-counter : (box : Box) (n units : ℕ) (answer : Offered) → afterOffer box n units answer .counter ≡ box .counter
+-- an offer does not move the counter
+pub offer-counter : (box : Box) (n units : ℕ) (answer : Offered) → afterOffer box n units answer .counter ≡ box .counter
 unfolding afterOffer
 offer-counter box n units (Offered.Accepted serial) = refl
 offer-counter box n units Offered.NotSound = refl

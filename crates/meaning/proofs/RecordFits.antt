@@ -190,7 +190,7 @@ abbrev pub Ascending : ℕ → List ℕ → Type 0
 Ascending from [] = Unit {0}
 Ascending from (at ∷ offers) = (from ≤ at) × Ascending at offers
 
-descending-later : (at later : ℕ) (slots : List ℕ) → at ≤ later → Descending at slots → Descending later slots
+pub descending-later : (at later : ℕ) (slots : List ℕ) → at ≤ later → Descending at slots → Descending later slots
 descending-later at later [] h d = tt
 descending-later at later (a ∷ slots) h d = (let o = d .0 in omega arith, d .1)
 

@@ -7,7 +7,6 @@ use mathlib.Core.Logic.{_≢_}
 use native.Mathlib.Omega.{arith}
 use lib.ListN.{length}
 use Rattle.laws.specs.Lists.{Placed}
-use Rattle.meaning.specs.declared.Offered.{Offered}
 use Rattle.meaning.specs.Numbers.{lastSlot}
 use Rattle.meaning.specs.Box.{Box}
 use Rattle.meaning.specs.Answers.{stepped}
@@ -18,6 +17,7 @@ use Rattle.meaning.specs.Run.{Line, endLine, stopLine, numberOf, offerAll, depa
 use Rattle.meaning.specs.Lines.{lineText}
 use Rattle.meaning.proofs.TextMost.{textOf}
 use Rattle.meaning.proofs.SlotsEnough.{potential}
+use Rattle.meaning.proofs.LinesMost.{offer-counter}
 use Rattle.meaning.proofs.RestOfRun.{restOf, rest-ended, rest-goes-on, slot-falls, afterAnswer}
 use Rattle.words.specs.Contents.{contents}
 use Rattle.words.specs.Sound.{soundWords}
@@ -30,15 +30,6 @@ use Rattle.whole_run.proofs.Reached.{Reached, reached-start, reached-as
 use Rattle.whole_run.proofs.Stepping.{after-stop, after-on, after-moved, departed-most}
 
 -- Offers do not move the counter.
-offer-counter : (box : Box) (n units : ℕ) (answer : Offered) → afterOffer box n units answer .counter ≡ box .counter
-unfolding afterOffer
-offer-counter box n units (Offered.Accepted serial) = refl
-offer-counter box n units Offered.NotSound = refl
-offer-counter box n units Offered.NoConnection = refl
-offer-counter box n units Offered.WrongLength = refl
-offer-counter box n units Offered.NotFitting = refl
-offer-counter box n units Offered.StoreFull = refl
-
 offers-counter : (numbers : List ℕ) (l : List (Placed Arrival)) (box : Box) → offerAll numbers l box .box .counter ≡ box .counter
 unfolding offerAll
 offers-counter numbers [] box = refl

@@ -1,10 +1,10 @@
 -- The text of the run of any bytes: refused by reading, refused by opening, or run.
-use Prim.Native.Nat.{ℕ, _≤_}
+use Prim.Native.Nat.{ℕ, _/_, _≤_}
 use mathlib.Core.Path.{_≡_, refl, sym, ap, _∙_, subst}
 use mathlib.Core.Bool.{Bool, true, false, cond, not}
 use mathlib.Core.List.{List, [], _∷_}
 use native.Mathlib.Omega.{arith}
-use lib.ListN.{length}
+use lib.ListN.{length, take}
 use lib.Dec.{ltb}
 use borrow.Author.Tests.{lt-ltb, le-ltb}
 use Rattle.meaning.specs.declared.Header.{Header}
@@ -12,19 +12,24 @@ use Rattle.meaning.specs.declared.Opened.{Opened}
 use Rattle.meaning.specs.declared.PlanRead.{PlanRead}
 use Rattle.meaning.specs.Numbers.{Settings, settingsAllowed}
 use Rattle.meaning.specs.Answers.{refusal, opened, planRead}
-use Rattle.meaning.specs.Calls.{openingAnswer}
-use Rattle.meaning.specs.Plan.{wordsOf, contentsOf, readingAnswer}
+use Rattle.meaning.specs.Calls.{newBox, openingAnswer}
+use Rattle.meaning.specs.Plan.{wordsOf, contentsOf, readingAnswer, table, factorAt}
 use Rattle.meaning.specs.Run.{Line, refusedLine, openRun, planRun, readRun, run}
 use Rattle.meaning.specs.Lines.{lineText, runText}
 use Rattle.meaning.proofs.TextMost.{textOf}
 use Rattle.meaning.proofs.RunFits.{textMost, run-fits}
 use Rattle.words.specs.Places.{boxWords}
+use Rattle.words.specs.Contents.{contents}
+use Rattle.words.specs.Sound.{soundWords}
 use Rattle.words.specs.Opening as openings
+use Rattle.words.proofs.Opened.{opened-sound, opened-new}
+use Rattle.plan.specs.Parts.{partOf}
 use Rattle.plan.specs.Good.{Readable, read-back}
 use Rattle.lines.specs.Put.{Room, Put, putAt}
 use Rattle.whole_run.specs.declared.running.Printed.{Printed}
 use Rattle.whole_run.specs.Printing.{printingAnswer, textAfter}
 use Rattle.whole_run.proofs.Reached.{text-one}
+use Rattle.whole_run.proofs.Whole.{factors-are}
 
 run-text : (bytes : List ℕ) → runText bytes ≡ textOf (run bytes)
 unfolding runText textOf
@@ -63,24 +68,48 @@ opening-same settings ws e =
     rw (le-ltb (length ws) boxWords (omega (arith, e))) refl
 
 -- Reading succeeds: opening decides.
-module _ (bytes : List ℕ) (h : Header) (r : Readable bytes h) (settings : Settings) (same : settings ≡ contentsOf (wordsOf bytes) h .settings) (ws : List ℕ) (size : length ws ≡ 4371) (answer : Opened) (is : answer ≡ openings.opened settings ws .0) where
-  opens : run bytes ≡ planRun (contentsOf (wordsOf bytes) h) (opened answer .number)
+module _ (bytes : List ℕ) (h : Header) (r : Readable bytes h) (classes factors ws : List ℕ) (part : classes ≡ partOf bytes (h .classes) 4) (copied : factors ≡ table factorAt 1 (wordsOf classes) 0 8) (size : 4371 ≡ length ws) {answer : Opened} {exit : List ℕ} (is : (answer, exit) ≡ openings.opened (openings.asked (h .interval) (h .cycle) (take (length classes / 4) factors)) ws) where
+  abbrev settings : Settings
+  settings = openings.asked (h .interval) (h .cycle) (take (length classes / 4) factors)
+
+  same : settings ≡ contentsOf (wordsOf bytes) h .settings
+  same = factors-are bytes h r classes part factors copied
+
+  answer-is : answer ≡ openings.opened settings ws .0
+  answer-is = ap (λ (q : Opened × List ℕ). q .0) is
+
+  exit-is : exit ≡ openings.opened settings ws .1
+  exit-is = ap (λ (q : Opened × List ℕ). q .1) is
+
+  -- the run is what this answer makes of it
+  abbrev runAs : Opened → List Line
+  runAs a = planRun (contentsOf (wordsOf bytes) h) (opened a .number)
+
+  opens : run bytes ≡ runAs answer
   unfolding run readRun
   opens =
-      ap (readRun bytes) (read-back bytes h r) ∙
-      ap (λ (a : Opened). planRun (contentsOf (wordsOf bytes) h) (opened a .number)) (sym (is ∙ opening-same settings ws size ∙ ap (openingAnswer 0 0) same))
+      ap (readRun bytes) (read-back bytes h r) ∙ ap runAs (sym (answer-is ∙ opening-same settings ws (sym size) ∙ ap (openingAnswer 0 0) same))
 
-  pub run-opened : answer ≡ Opened.Done → runText bytes ≡ textOf (openRun (contentsOf (wordsOf bytes) h))
-  unfolding opened planRun
-  run-opened e = run-text bytes ∙ ap textOf (opens ∙ ap (λ (a : Opened). planRun (contentsOf (wordsOf bytes) h) (opened a .number)) e)
+  -- a box is open
+  module _ (done : answer ≡ Opened.Done) where
+    pub run-opened : runText bytes ≡ textOf (openRun (contentsOf (wordsOf bytes) h))
+    unfolding opened planRun
+    run-opened = run-text bytes ∙ ap textOf (opens ∙ ap runAs done)
 
+    pub opens-sound : soundWords exit ≡ true
+    opens-sound = ap soundWords exit-is ∙ opened-sound settings ws (sym answer-is ∙ done)
+
+    pub opens-new : contents exit ≡ newBox (contentsOf (wordsOf bytes) h .settings)
+    opens-new = ap contents exit-is ∙ opened-new settings ws (sym answer-is ∙ done) ∙ ap newBox same
+
+  -- opening refuses: one line
   pub refused-2 : answer ≡ Opened.OffRange → runText bytes ≡ lineText (refusedLine 2)
   unfolding opened planRun refusal
-  refused-2 e = run-text bytes ∙ ap textOf (opens ∙ ap (λ (a : Opened). planRun (contentsOf (wordsOf bytes) h) (opened a .number)) e) ∙ text-one (refusedLine 2)
+  refused-2 e = run-text bytes ∙ ap textOf (opens ∙ ap runAs e) ∙ text-one (refusedLine 2)
 
   pub refused-17 : answer ≡ Opened.TooShort → runText bytes ≡ lineText (refusedLine 17)
   unfolding opened planRun refusal
-  refused-17 e = run-text bytes ∙ ap textOf (opens ∙ ap (λ (a : Opened). planRun (contentsOf (wordsOf bytes) h) (opened a .number)) e) ∙ text-one (refusedLine 17)
+  refused-17 e = run-text bytes ∙ ap textOf (opens ∙ ap runAs e) ∙ text-one (refusedLine 17)
 
 -- What is promised of a buffer that is too short, and of one that is long enough.
 pub too-short : (bytes out : List ℕ) → length out ≤ 419999 → (Printed.TooShort ≡ printingAnswer bytes (length out)) × (out ≡ textAfter bytes out)

@@ -9,8 +9,8 @@ use lib.ListN.{length, length-append}
 use lib.Dec.{leb, ltb, eqb}
 use borrow.Author.Tests.{leb-true, le-leb, ltb-true, lt-ltb, eqb-true, eqb-false, eq-eqb, ne-eqb}
 use Rattle.laws.specs.Series.{length-series, every-all, every-index}
-use Rattle.laws.specs.Tests.{every, within-facts, within-test, bool-cases}
-use Rattle.laws.specs.Deciding.{bool-same, every-append, every-split, every-flatten, every-unflatten, every-map, every-both}
+use Rattle.laws.specs.Tests.{every, within-facts, within-test, bool-cases, same-test}
+use Rattle.laws.specs.Deciding.{every-append, every-split, every-flatten, every-unflatten, every-map, every-both}
 use Rattle.meaning.specs.Numbers.{largestFactor, risingAbove, settingsAllowed, connectionAllowed, mostConnections, mostWaiting, lastSlot}
 use Rattle.meaning.specs.Envelope.{allowanceKept}
 use Rattle.meaning.specs.Box.{Box, Packet, connections, waiting, onLink, packets, packetKept, linkKept, serialsRise, allowancesKept, sound}
@@ -272,7 +272,7 @@ sound-parts ws e =
 pub tested-sound : (ws : List ℕ) → tested ws ≡ soundWords ws
 unfolding soundWords
 tested-sound ws =
-    bool-same (tested ws) (soundWords ws)
+    same-test (tested ws) (soundWords ws)
     (λ e. (let p = tested-parts ws e in and-eq-true-iff (wellFormed ws) (sound (contents ws)) .1 (parts-formed ws p, parts-sound ws p)))
     (λ e. parts-tested ws (sound-parts ws e))
 

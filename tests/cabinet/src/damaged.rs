@@ -5,19 +5,13 @@ use cabinet::boxes::{any_with_waiting, newcomer, offer, words_of, EDGES};
 use cabinet::call::Call;
 use cabinet::chance::Chance;
 use cabinet::trial::Trial;
-use reference::words::BOX_WORDS;
+use reference::words::{ACCEPTED, BOX_WORDS, CONNECTIONS, COUNTER, LEFT, LENGTHS, ROWS, WAITING};
 use reference::Multiplexer;
 
 const STATES: u64 = 5_000;
 const DAMAGES: u64 = 400;
 /// Of each kind, sound and not, this share at least: one in so many.
 const SHARE: u64 = 10;
-
-const COUNTER: usize = 204;
-const ACCEPTED: usize = 205;
-const LEFT: usize = 206;
-const LENGTHS: usize = 211;
-const WAITING: usize = 275;
 
 pub fn part(seed: u64) -> Result<String, String> {
     let mut sound = 0;
@@ -98,10 +92,10 @@ fn wrap_lengths(chance: &mut Chance, trial: &mut Trial) -> Vec<usize> {
 /// A word of the tables, of a packet that waits, or of a free one.
 fn any_place(chance: &mut Chance, mux: &Multiplexer) -> usize {
     let used = WAITING + 4 * mux.waiting.len();
-    let rows = 12 + 6 * mux.connections.len();
+    let rows = ROWS + 6 * mux.connections.len();
     let (low, beyond) = match chance.below(12) {
-        0 => (0, 12),
-        1..=3 if rows > 12 => (12, rows),
+        0 => (0, ROWS),
+        1..=3 if rows > ROWS => (ROWS, rows),
         4 => (rows.min(COUNTER - 1), COUNTER),
         5 => (COUNTER, LEFT),
         6 => (LEFT, LENGTHS),
@@ -125,7 +119,7 @@ fn swapped(chance: &mut Chance, mux: &Multiplexer, place: usize) -> usize {
 
 fn any_word(chance: &mut Chance, words: &[u32], place: usize) -> u32 {
     let old = words[place];
-    let near = chance.pick(&[COUNTER, ACCEPTED, 0, 11]);
+    let near = chance.pick(&[COUNTER, ACCEPTED, 0, CONNECTIONS]);
     match chance.below(7) {
         0 | 1 => old ^ (1 << chance.below(32)),
         2 => old.wrapping_add(1),

@@ -6,14 +6,14 @@ use crate::{between, Connection, Multiplexer, Packet, LAST_SLOT};
 pub const BOX_WORDS: usize = 4371;
 
 const FACTORS: usize = 3;
-const CONNECTIONS: usize = 11;
-const ROWS: usize = 12;
-const COUNTER: usize = 204;
-const ACCEPTED: usize = 205;
-const LEFT: usize = 206;
+pub const CONNECTIONS: usize = 11;
+pub const ROWS: usize = 12;
+pub const COUNTER: usize = 204;
+pub const ACCEPTED: usize = 205;
+pub const LEFT: usize = 206;
 const LINK: usize = 207;
-const LENGTHS: usize = 211;
-const WAITING: usize = 275;
+pub const LENGTHS: usize = 211;
+pub const WAITING: usize = 275;
 
 /// Writes the box. The words beyond its last waiting packet stay as they are.
 pub fn write(mux: &Multiplexer, words: &mut [u32]) {

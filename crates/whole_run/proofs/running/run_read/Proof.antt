@@ -1,19 +1,12 @@
 -- `whole_run::running::run_read`: opening decides.
-use Prim.Native.Nat.{ℕ, _/_}
-use mathlib.Core.Path.{_≡_, sym, ap, subst, _∙_}
+use Prim.Native.Nat.{ℕ}
+use mathlib.Core.Path.{sym, subst}
 use mathlib.Core.List.{List}
 use native.Mathlib.Omega.{arith}
-use lib.ListN.{length, take}
 use lib.Seq.{length-take-le}
-use Rattle.meaning.specs.declared.Opened.{Opened}
-use Rattle.meaning.specs.Calls.{newBox}
-use Rattle.words.specs.Contents.{contents}
-use Rattle.words.specs.Sound.{soundWords}
-use Rattle.words.specs.Opening.{asked, opened}
-use Rattle.words.proofs.Opened.{opened-sound, opened-new}
 use Rattle.lines.specs.Put.{Room, Put}
-use Rattle.whole_run.proofs.Whole.{classes-few, factors-are}
-use Rattle.whole_run.proofs.Texts.{run-opened, refused-2, refused-17}
+use Rattle.whole_run.proofs.Whole.{classes-few}
+use Rattle.whole_run.proofs.Texts.{run-opened, opens-sound, opens-new, refused-2, refused-17}
 use borrow.Author.Needs.{needs}
 use Rattle.whole_run.proofs.running.run_read.Statement.{statement}
 use Rattle.whole_run.proofs.running.run_read.Tie as tie
@@ -55,17 +48,13 @@ slice-aggregate-run-open c = search needs
 run-open-requires : tie.Need-run-open-requires
 run-open-requires c κs =
     let s = c .before .before .before .before .before .before .before .before .before .before .before .before .before .before .before in
-    let p = c .before .before .before .before .before .open .ensures in
     let classes = c .before .before .before .before .before .before .before .before .before .before .before .classes in
     let copied = c .before .before .before .before .before .before .before .before .before .copy-factors in
-    let set = asked (s .args .h .interval) (s .args .h .cycle) (take (length (classes .result .now) / 4) (copied .last .1 .0)) in
-    let same = factors-are (s .args .plan .now) (s .args .h) (s .pre .0) (classes .result .now) (classes .ensures) (copied .last .1 .0) (copied .ensures) in
     let room = c .before .before .before .before .before .before .before .before .before .before .before .before .box-room in
-    let answer : c .before .before .before .before .before .open .result ≡ opened set (room .result) .0 = ap (λ (q : Opened × List ℕ). q .0) p in
-    let words : c .before .before .before .before .before .open .last .0 ≡ opened set (room .result) .1 = ap (λ (q : Opened × List ℕ). q .1) p in
-    let done = sym answer ∙ c .before .before .enum-told .given .1 in (
-      (ap soundWords words ∙ opened-sound set (room .result) done, ap contents words ∙ opened-new set (room .result) done ∙ ap newBox same, s .pre .0),
-      subst (λ (l : List ℕ). Room (s .args .out .now) 0 l) (run-opened (s .args .plan .now) (s .args .h) (s .pre .0) set same (room .result) (sym (room .ensures .size)) _ answer (c .before .before .enum-told .given .1)) (s .pre .1),
+    let opens = c .before .before .before .before .before .open .ensures in
+    let done = c .before .before .enum-told .given .1 in (
+      (opens-sound (s .args .plan .now) (s .args .h) (s .pre .0) (classes .result .now) (copied .last .1 .0) (room .result) (classes .ensures) (copied .ensures) (room .ensures .size) opens done, opens-new (s .args .plan .now) (s .args .h) (s .pre .0) (classes .result .now) (copied .last .1 .0) (room .result) (classes .ensures) (copied .ensures) (room .ensures .size) opens done, s .pre .0),
+      subst (λ (l : List ℕ). Room (s .args .out .now) 0 l) (run-opened (s .args .plan .now) (s .args .h) (s .pre .0) (classes .result .now) (copied .last .1 .0) (room .result) (classes .ensures) (copied .ensures) (room .ensures .size) opens done) (s .pre .1),
     )
 
 enum-told-2 : tie.Need-enum-told-2
@@ -74,14 +63,11 @@ enum-told-2 c = search needs
 put-refused-requires : tie.Need-put-refused-requires
 put-refused-requires c κs =
     let s = c .before .before .before .before .before .before .before .before .before .before .before .before .before .before in
-    let p = c .before .before .before .before .open .ensures in
     let classes = c .before .before .before .before .before .before .before .before .before .before .classes in
     let copied = c .before .before .before .before .before .before .before .before .copy-factors in
-    let set = asked (s .args .h .interval) (s .args .h .cycle) (take (length (classes .result .now) / 4) (copied .last .1 .0)) in
-    let same = factors-are (s .args .plan .now) (s .args .h) (s .pre .0) (classes .result .now) (classes .ensures) (copied .last .1 .0) (copied .ensures) in
     let room = c .before .before .before .before .before .before .before .before .before .before .before .box-room in
-    let answer : c .before .before .before .before .open .result ≡ opened set (room .result) .0 = ap (λ (q : Opened × List ℕ). q .0) p in
-    subst (λ (l : List ℕ). Room (s .args .out .now) 0 l) (refused-2 (s .args .plan .now) (s .args .h) (s .pre .0) set same (room .result) (sym (room .ensures .size)) _ answer (c .before .enum-told2 .given .1)) (s .pre .1)
+    let opens = c .before .before .before .before .open .ensures in
+    subst (λ (l : List ℕ). Room (s .args .out .now) 0 l) (refused-2 (s .args .plan .now) (s .args .h) (s .pre .0) (classes .result .now) (copied .last .1 .0) (room .result) (classes .ensures) (copied .ensures) (room .ensures .size) opens (c .before .enum-told2 .given .1)) (s .pre .1)
 
 enum-told-3 : tie.Need-enum-told-3
 enum-told-3 c = search needs
@@ -89,14 +75,11 @@ enum-told-3 c = search needs
 put-refused-requires-2 : tie.Need-put-refused-requires-2
 put-refused-requires-2 c κs =
     let s = c .before .before .before .before .before .before .before .before .before .before .before .before .before .before in
-    let p = c .before .before .before .before .open .ensures in
     let classes = c .before .before .before .before .before .before .before .before .before .before .classes in
     let copied = c .before .before .before .before .before .before .before .before .copy-factors in
-    let set = asked (s .args .h .interval) (s .args .h .cycle) (take (length (classes .result .now) / 4) (copied .last .1 .0)) in
-    let same = factors-are (s .args .plan .now) (s .args .h) (s .pre .0) (classes .result .now) (classes .ensures) (copied .last .1 .0) (copied .ensures) in
     let room = c .before .before .before .before .before .before .before .before .before .before .before .box-room in
-    let answer : c .before .before .before .before .open .result ≡ opened set (room .result) .0 = ap (λ (q : Opened × List ℕ). q .0) p in
-    subst (λ (l : List ℕ). Room (s .args .out .now) 0 l) (refused-17 (s .args .plan .now) (s .args .h) (s .pre .0) set same (room .result) (sym (room .ensures .size)) _ answer (c .before .enum-told3 .given .1)) (s .pre .1)
+    let opens = c .before .before .before .before .open .ensures in
+    subst (λ (l : List ℕ). Room (s .args .out .now) 0 l) (refused-17 (s .args .plan .now) (s .args .h) (s .pre .0) (classes .result .now) (copied .last .1 .0) (room .result) (classes .ensures) (copied .ensures) (room .ensures .size) opens (c .before .enum-told3 .given .1)) (s .pre .1)
 
 same-length : tie.Need-same-length
 same-length c = search needs
@@ -104,15 +87,12 @@ same-length c = search needs
 returns : tie.Need-returns
 returns c =
     let s = c .before .before .before .before .before .before .before .before .before .before .before .before .before .before .before .before .before .before .before in
-    let p = c .before .before .before .before .before .before .before .before .before .open .ensures in
     let classes = c .before .before .before .before .before .before .before .before .before .before .before .before .before .before .before .classes in
     let copied = c .before .before .before .before .before .before .before .before .before .before .before .before .before .copy-factors in
-    let set = asked (s .args .h .interval) (s .args .h .cycle) (take (length (classes .result .now) / 4) (copied .last .1 .0)) in
-    let same = factors-are (s .args .plan .now) (s .args .h) (s .pre .0) (classes .result .now) (classes .ensures) (copied .last .1 .0) (copied .ensures) in
     let room = c .before .before .before .before .before .before .before .before .before .before .before .before .before .before .before .before .box-room in
-    let answer : c .before .before .before .before .before .before .before .before .before .open .result ≡ opened set (room .result) .0 = ap (λ (q : Opened × List ℕ). q .0) p in
+    let opens = c .before .before .before .before .before .before .before .before .before .open .ensures in
     let q = c .before .before .before .run-open in
-    subst (λ (l : List ℕ). Put (s .args .out .now) (q .last .1 .1 .1 .0) 0 l (q .result)) (sym (run-opened (s .args .plan .now) (s .args .h) (s .pre .0) set same (room .result) (sym (room .ensures .size)) _ answer (c .before .before .before .before .before .before .enum-told .given .1))) (q .ensures)
+    subst (λ (l : List ℕ). Put (s .args .out .now) (q .last .1 .1 .1 .0) 0 l (q .result)) (sym (run-opened (s .args .plan .now) (s .args .h) (s .pre .0) (classes .result .now) (copied .last .1 .0) (room .result) (classes .ensures) (copied .ensures) (room .ensures .size) opens (c .before .before .before .before .before .before .enum-told .given .1))) (q .ensures)
 
 same-length-2 : tie.Need-same-length-2
 same-length-2 c = search needs
@@ -120,15 +100,12 @@ same-length-2 c = search needs
 returns-2 : tie.Need-returns-2
 returns-2 c =
     let s = c .before .before .before .before .before .before .before .before .before .before .before .before .before .before .before .before .before in
-    let p = c .before .before .before .before .before .before .before .open .ensures in
     let classes = c .before .before .before .before .before .before .before .before .before .before .before .before .before .classes in
     let copied = c .before .before .before .before .before .before .before .before .before .before .before .copy-factors in
-    let set = asked (s .args .h .interval) (s .args .h .cycle) (take (length (classes .result .now) / 4) (copied .last .1 .0)) in
-    let same = factors-are (s .args .plan .now) (s .args .h) (s .pre .0) (classes .result .now) (classes .ensures) (copied .last .1 .0) (copied .ensures) in
     let room = c .before .before .before .before .before .before .before .before .before .before .before .before .before .before .box-room in
-    let answer : c .before .before .before .before .before .before .before .open .result ≡ opened set (room .result) .0 = ap (λ (q : Opened × List ℕ). q .0) p in
+    let opens = c .before .before .before .before .before .before .before .open .ensures in
     let q = c .before .before .put-refused in
-    subst (λ (l : List ℕ). Put (s .args .out .now) (q .last .0) 0 l (q .result)) (sym (refused-2 (s .args .plan .now) (s .args .h) (s .pre .0) set same (room .result) (sym (room .ensures .size)) _ answer (c .before .before .before .before .enum-told2 .given .1))) (q .ensures)
+    subst (λ (l : List ℕ). Put (s .args .out .now) (q .last .0) 0 l (q .result)) (sym (refused-2 (s .args .plan .now) (s .args .h) (s .pre .0) (classes .result .now) (copied .last .1 .0) (room .result) (classes .ensures) (copied .ensures) (room .ensures .size) opens (c .before .before .before .before .enum-told2 .given .1))) (q .ensures)
 
 same-length-3 : tie.Need-same-length-3
 same-length-3 c = search needs
@@ -136,15 +113,12 @@ same-length-3 c = search needs
 returns-3 : tie.Need-returns-3
 returns-3 c =
     let s = c .before .before .before .before .before .before .before .before .before .before .before .before .before .before .before .before .before in
-    let p = c .before .before .before .before .before .before .before .open .ensures in
     let classes = c .before .before .before .before .before .before .before .before .before .before .before .before .before .classes in
     let copied = c .before .before .before .before .before .before .before .before .before .before .before .copy-factors in
-    let set = asked (s .args .h .interval) (s .args .h .cycle) (take (length (classes .result .now) / 4) (copied .last .1 .0)) in
-    let same = factors-are (s .args .plan .now) (s .args .h) (s .pre .0) (classes .result .now) (classes .ensures) (copied .last .1 .0) (copied .ensures) in
     let room = c .before .before .before .before .before .before .before .before .before .before .before .before .before .before .box-room in
-    let answer : c .before .before .before .before .before .before .before .open .result ≡ opened set (room .result) .0 = ap (λ (q : Opened × List ℕ). q .0) p in
+    let opens = c .before .before .before .before .before .before .before .open .ensures in
     let q = c .before .before .put-refused2 in
-    subst (λ (l : List ℕ). Put (s .args .out .now) (q .last .0) 0 l (q .result)) (sym (refused-17 (s .args .plan .now) (s .args .h) (s .pre .0) set same (room .result) (sym (room .ensures .size)) _ answer (c .before .before .before .before .enum-told3 .given .1))) (q .ensures)
+    subst (λ (l : List ℕ). Put (s .args .out .now) (q .last .0) 0 l (q .result)) (sym (refused-17 (s .args .plan .now) (s .args .h) (s .pre .0) (classes .result .now) (copied .last .1 .0) (room .result) (classes .ensures) (copied .ensures) (room .ensures .size) opens (c .before .before .before .before .enum-told3 .given .1))) (q .ensures)
 
 pub run-read-spec : {M : Type 1} → statement M
 run-read-spec =
