@@ -10,6 +10,8 @@ pub mod KeptByAdmission
 pub mod KeptByOffer
 pub mod KeptByStep
 pub mod Layers
+pub mod OfferLines
+pub mod StepLines
 pub mod LinesMost
 pub mod QueueLaws
 pub mod Readings

@@ -17,7 +17,8 @@ use Rattle.meaning.specs.Run.{Line, endLine, stopLine, numberOf, offerAll, depa
 use Rattle.meaning.specs.Lines.{lineText}
 use Rattle.meaning.proofs.TextMost.{textOf}
 use Rattle.meaning.proofs.SlotsEnough.{potential}
-use Rattle.meaning.proofs.LinesMost.{offer-counter}
+use Rattle.meaning.proofs.OfferLines.{offer-counter}
+use Rattle.meaning.proofs.StepLines.{moved-counter}
 use Rattle.meaning.proofs.RestOfRun.{restOf, rest-ended, rest-goes-on, slot-falls, afterAnswer}
 use Rattle.words.specs.Contents.{contents}
 use Rattle.words.specs.Sound.{soundWords}
@@ -37,10 +38,6 @@ offers-counter numbers (a ∷ l) box =
     let n = numberOf numbers (a .entry .place) in
     let answer = offerAnswer box n (a .entry .units) in
     offers-counter numbers l (afterOffer box n (a .entry .units) answer) ∙ offer-counter box n (a .entry .units) answer
-
-moved-counter : (box : Box) → moved box .counter ≡ suc (box .counter)
-unfolding moved
-moved-counter box = refl
 
 -- Some slots are run: the words stand for the box before the next one, and the rest of the run is still to be printed.
 pub record Going (numbers bytes : List ℕ) (box : Box) (ws before out : List ℕ) (start at passed departed : ℕ) : Type 0 where

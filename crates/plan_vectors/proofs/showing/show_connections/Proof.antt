@@ -1,8 +1,8 @@
--- `plan_vectors::show_connections` is safe and ends. Assumes nothing.
+-- `plan_vectors::showing::show_connections` is safe and ends. Assumes nothing.
 use Prim.Native.Nat.{_-_, _≤_}
 use borrow.Author.Needs.{needs}
-use Rattle.plan_vectors.proofs.show_connections.Statement.{statement}
-use Rattle.plan_vectors.proofs.show_connections.Tie as tie
+use Rattle.plan_vectors.proofs.showing.show_connections.Statement.{statement}
+use Rattle.plan_vectors.proofs.showing.show_connections.Tie as tie
 
 abbrev Inv-loop : tie.InvT-loop
 Inv-loop connections count i₀ i = i ≤ count

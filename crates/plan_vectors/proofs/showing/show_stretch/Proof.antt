@@ -1,8 +1,8 @@
--- `plan_vectors::show_stretch` is safe and ends. Assumes nothing.
+-- `plan_vectors::showing::show_stretch` is safe and ends. Assumes nothing.
 use Prim.Native.Nat.{_-_, _≤_}
 use borrow.Author.Needs.{needs}
-use Rattle.plan_vectors.proofs.show_stretch.Statement.{statement}
-use Rattle.plan_vectors.proofs.show_stretch.Tie as tie
+use Rattle.plan_vectors.proofs.showing.show_stretch.Statement.{statement}
+use Rattle.plan_vectors.proofs.showing.show_stretch.Tie as tie
 
 abbrev Inv-loop : tie.InvT-loop
 Inv-loop stretch from i₀ i = i ≤ 4

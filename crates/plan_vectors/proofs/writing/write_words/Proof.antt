@@ -1,9 +1,9 @@
--- `plan_vectors::write_words` is safe and ends: the parts that it lends are within its tables. Assumes nothing.
+-- `plan_vectors::writing::write_words` is safe and ends: the parts that it lends are within its tables. Assumes nothing.
 use native.Mathlib.Omega.{arith}
 use lib.ListN.{length-take}
 use borrow.Author.Needs.{needs}
-use Rattle.plan_vectors.proofs.write_words.Statement.{statement}
-use Rattle.plan_vectors.proofs.write_words.Tie as tie
+use Rattle.plan_vectors.proofs.writing.write_words.Statement.{statement}
+use Rattle.plan_vectors.proofs.writing.write_words.Tie as tie
 
 classes-requires : tie.Need-classes-requires
 classes-requires c κs = search needs

@@ -1,8 +1,8 @@
--- `plan_vectors::show_factors` is safe and ends. Assumes nothing.
+-- `plan_vectors::showing::show_factors` is safe and ends. Assumes nothing.
 use Prim.Native.Nat.{_-_, _≤_}
 use borrow.Author.Needs.{needs}
-use Rattle.plan_vectors.proofs.show_factors.Statement.{statement}
-use Rattle.plan_vectors.proofs.show_factors.Tie as tie
+use Rattle.plan_vectors.proofs.showing.show_factors.Statement.{statement}
+use Rattle.plan_vectors.proofs.showing.show_factors.Tie as tie
 
 abbrev Inv-loop : tie.InvT-loop
 Inv-loop classes count i₀ i = i ≤ count

@@ -1,9 +1,9 @@
--- `plan_vectors::is_untouched` is safe and ends. Assumes nothing.
+-- `plan_vectors::writing::is_untouched` is safe and ends. Assumes nothing.
 use Prim.Native.Nat.{_-_, _≤_}
 use borrow.Author.Needs.{needs}
 use lib.ListN.{length}
-use Rattle.plan_vectors.proofs.is_untouched.Statement.{statement}
-use Rattle.plan_vectors.proofs.is_untouched.Tie as tie
+use Rattle.plan_vectors.proofs.writing.is_untouched.Statement.{statement}
+use Rattle.plan_vectors.proofs.writing.is_untouched.Tie as tie
 
 abbrev Inv-loop : tie.InvT-loop
 Inv-loop bytes i₀ i = i ≤ length bytes

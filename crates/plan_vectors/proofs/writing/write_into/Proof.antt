@@ -1,9 +1,9 @@
--- `plan_vectors::write_into` is safe and ends: the part that it lends is within the buffer. Assumes nothing.
+-- `plan_vectors::writing::write_into` is safe and ends: the part that it lends is within the buffer. Assumes nothing.
 use native.Mathlib.Omega.{arith}
 use lib.ListN.{length-take}
 use borrow.Author.Needs.{needs}
-use Rattle.plan_vectors.proofs.write_into.Statement.{statement}
-use Rattle.plan_vectors.proofs.write_into.Tie as tie
+use Rattle.plan_vectors.proofs.writing.write_into.Statement.{statement}
+use Rattle.plan_vectors.proofs.writing.write_into.Tie as tie
 
 returns : tie.Need-returns
 returns c = search needs

@@ -1,12 +1,12 @@
--- `plan_vectors::words_of` is safe and ends. Assumes nothing.
+-- `plan_vectors::writing::words_of` is safe and ends. Assumes nothing.
 use native.Mathlib.Omega.{arith}
 use lib.ListN.{length-set}
 use Prim.Native.Nat.{_-_, _≤_}
 use mathlib.Core.Path.{_≡_}
 use borrow.Author.Needs.{needs}
 use lib.ListN.{length}
-use Rattle.plan_vectors.proofs.words_of.Statement.{statement}
-use Rattle.plan_vectors.proofs.words_of.Tie as tie
+use Rattle.plan_vectors.proofs.writing.words_of.Statement.{statement}
+use Rattle.plan_vectors.proofs.writing.words_of.Tie as tie
 
 abbrev Inv-loop : tie.InvT-loop
 Inv-loop table words₀ i₀ words i = (i ≤ length words) × (length words ≡ length words₀)

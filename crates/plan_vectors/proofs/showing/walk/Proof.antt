@@ -1,12 +1,12 @@
--- `plan_vectors::walk` is safe and ends. The loop's invariant: no more entries are passed over than there are. Assumes nothing.
+-- `plan_vectors::showing::walk` is safe and ends. The loop's invariant: no more entries are passed over than there are. Assumes nothing.
 use mathlib.Core.Path.{ap}
 use Prim.Native.Nat.{_-_, _/_, _≤_}
 use native.Mathlib.Omega.{arith}
 use borrow.Author.Needs.{needs}
 use lib.ListN.{length}
 use Rattle.plan.specs.Stretch.{stretch-within}
-use Rattle.plan_vectors.proofs.walk.Statement.{statement}
-use Rattle.plan_vectors.proofs.walk.Tie as tie
+use Rattle.plan_vectors.proofs.showing.walk.Statement.{statement}
+use Rattle.plan_vectors.proofs.showing.walk.Tie as tie
 
 abbrev Inv-loop : tie.InvT-loop
 Inv-loop arrivals from₀ slot₀ from slot = (slot ≤ 10) × (from ≤ length arrivals / 12)

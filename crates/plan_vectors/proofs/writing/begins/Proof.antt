@@ -1,9 +1,9 @@
--- `plan_vectors::begins` is safe and ends. Assumes nothing.
+-- `plan_vectors::writing::begins` is safe and ends. Assumes nothing.
 use Prim.Native.Nat.{_-_, _≤_}
 use borrow.Author.Needs.{needs}
 use lib.ListN.{length}
-use Rattle.plan_vectors.proofs.begins.Statement.{statement}
-use Rattle.plan_vectors.proofs.begins.Tie as tie
+use Rattle.plan_vectors.proofs.writing.begins.Statement.{statement}
+use Rattle.plan_vectors.proofs.writing.begins.Tie as tie
 
 abbrev Inv-loop : tie.InvT-loop
 Inv-loop a b i₀ i = i ≤ length a
