@@ -1,6 +1,6 @@
 -- On sound words an inner call keeps the promise of the public one: who knows that the words are sound need not have them tested again.
 use Prim.Native.Nat.{ℕ}
-use mathlib.Core.Path.{_≡_, refl, sym, _∙_}
+use mathlib.Core.Path.{_≡_, refl, _∙_}
 use mathlib.Core.Bool.{true}
 use mathlib.Core.List.{List}
 use Rattle.meaning.specs.declared.Admitted.{Admitted}

@@ -11,7 +11,7 @@ ghost use mathlib.Core.Path.{_≡_};
 ghost use mathlib.Core.Bool.{true, false, _&&_};
 ghost use Prim.Native.Nat.{suc, _<_, _≤_};
 ghost use Rattle.meaning.specs.Numbers.{lastSlot};
-ghost use Rattle.meaning.specs.Queues.{turnAt, tagZeroWaits};
+ghost use Rattle.meaning.specs.Queues.{tagZeroWaits};
 ghost use Rattle.meaning.specs.Step.{queuesTaken, turnDue, sentAnswer, linkTaken, moved};
 ghost use Rattle.words.specs.Contents.{contents};
 ghost use Rattle.words.specs.Sound.{Fitting, soundWords};

@@ -1,5 +1,5 @@
 -- The admissions of a file, one after another: what is left of `admitAll` at each place.
-use Prim.Native.Nat.{ℕ, suc, _+_, _*_, _/_, _≤_, _<_}
+use Prim.Native.Nat.{ℕ, suc, _+_, _*_, _/_, _<_}
 use mathlib.Core.Path.{_≡_, refl, sym, ap, _∙_, subst}
 use mathlib.Core.Bool.{true}
 use mathlib.Core.List.{List, [], _∷_, _++_, append-assoc, append-nil}
@@ -12,7 +12,7 @@ use Rattle.meaning.specs.Box.{Box}
 use Rattle.meaning.specs.Answers.{admitted}
 use Rattle.meaning.specs.Calls.{admissionAnswer, afterAdmission}
 use Rattle.meaning.specs.Plan.{wordsOf, connectionAt}
-use Rattle.meaning.specs.Run.{Line, AfterAdmissions, admitLine, lineOfAdmission, admitAll}
+use Rattle.meaning.specs.Run.{AfterAdmissions, admitLine, lineOfAdmission, admitAll}
 use Rattle.meaning.specs.Lines.{lineText}
 use Rattle.meaning.proofs.TextMost.{textOf}
 use Rattle.words.specs.Contents.{contents}

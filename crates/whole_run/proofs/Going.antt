@@ -7,11 +7,10 @@ use mathlib.Core.Logic.{_≢_}
 use native.Mathlib.Omega.{arith}
 use lib.ListN.{length}
 use Rattle.laws.specs.Lists.{Placed}
-use Rattle.meaning.specs.Numbers.{lastSlot}
 use Rattle.meaning.specs.Box.{Box}
 use Rattle.meaning.specs.Answers.{stepped}
 use Rattle.meaning.specs.Calls.{offerAnswer, afterOffer}
-use Rattle.meaning.specs.Step.{moved, afterStep}
+use Rattle.meaning.specs.Step.{moved}
 use Rattle.meaning.specs.Plan.{Arrival}
 use Rattle.meaning.specs.Run.{Line, endLine, stopLine, numberOf, offerAll, departures, finished}
 use Rattle.meaning.specs.Lines.{lineText}
@@ -26,7 +25,8 @@ use Rattle.plan.specs.Parts.{arrivalsIn, leading}
 use Rattle.plan.specs.Stretch.{walk-starts}
 use Rattle.multiplexer.proofs.Sounds.{counter-most}
 use Rattle.lines.specs.Put.{Room, Put}
-use Rattle.whole_run.specs.Parts.{RunsSlot, PassesIdle, SlotRun, Walked, arrivalsPlaced, offersNow, answerNow, linesOfSlot, boxAfterSlot, restOfRun}
+use Rattle.whole_run.specs.declared.slots.Slot.{Slot}
+use Rattle.whole_run.specs.Parts.{RunsSlot, PassesIdle, Walked, arrivalsPlaced, offersNow, answerNow, linesOfSlot, restOfRun}
 use Rattle.whole_run.proofs.Reached.{Reached, reached-start, reached-as, reached-room, reached-next, reached-on, reached-last, text-one, text-append}
 use Rattle.whole_run.proofs.Stepping.{after-stop, after-on, after-moved, departed-most}
 
@@ -109,7 +109,7 @@ module _ {numbers bytes : List ℕ} {box : Box} {ws before out : List ℕ} {star
     pub slot-room : Room out at (textOf (linesOfSlot numbers bytes (contents ws)))
     slot-room = reached-next (textOf (linesOfSlot numbers bytes now)) (textOf left) room slot-reached
 
-    module _ {r : SlotRun} {after printed : List ℕ} (s : RunsSlot r numbers bytes (contents ws) after out printed at) where
+    module _ {r : Slot} {after printed : List ℕ} (s : RunsSlot r numbers bytes (contents ws) after out printed at) where
       left-reached : Reached before printed start (textOf (restOfRun numbers bytes box)) (textOf left) (r .at)
       left-reached = reached-on (textOf (linesOfSlot numbers bytes now)) (textOf left) room slot-reached (s .text)
 

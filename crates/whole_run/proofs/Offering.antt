@@ -1,18 +1,18 @@
 -- The offers of a slot, one after another: what is left of `offerAll` at each of them.
-use Prim.Native.Nat.{ℕ, suc, _+_, _*_, _/_, _≤_, _<_}
+use Prim.Native.Nat.{ℕ, suc, _+_, _*_, _/_, _<_}
 use mathlib.Core.Path.{_≡_, refl, sym, ap, _∙_, subst}
 use mathlib.Core.Bool.{true}
 use mathlib.Core.List.{List, [], _∷_, _++_}
 use native.Mathlib.Omega.{arith}
 use lib.ListN.{length, getD, drop}
 use lib.Seq.{drop-cons, drop-length}
-use Rattle.laws.specs.Lists.{Placed, placedFrom}
+use Rattle.laws.specs.Lists.{placedFrom}
 use Rattle.meaning.specs.declared.Offered.{Offered}
 use Rattle.meaning.specs.Box.{Box}
 use Rattle.meaning.specs.Answers.{offered}
 use Rattle.meaning.specs.Calls.{offerAnswer, afterOffer}
 use Rattle.meaning.specs.Plan.{Arrival, wordsOf, arrivalAt}
-use Rattle.meaning.specs.Run.{Line, AfterOffers, offerLine, numberOf, offerAll}
+use Rattle.meaning.specs.Run.{AfterOffers, offerLine, numberOf, offerAll}
 use Rattle.meaning.specs.Lines.{lineText}
 use Rattle.meaning.proofs.TextMost.{textOf}
 use Rattle.words.specs.Contents.{contents}

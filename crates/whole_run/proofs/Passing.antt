@@ -1,14 +1,14 @@
 -- One slot of a run, and the slots one after another: what is left of the run before each of them.
-use Prim.Native.Nat.{ℕ, zero, suc, _+_, _/_, _≤_, _<_}
-use mathlib.Core.Path.{_≡_, refl, sym, ap, _∙_, subst}
-use mathlib.Core.Bool.{Bool, true, false, _&&_, and-true}
+use Prim.Native.Nat.{ℕ, zero, suc, _/_, _≤_, _<_}
+use mathlib.Core.Path.{_≡_, refl, sym, ap, _∙_}
+use mathlib.Core.Bool.{false, _&&_}
 use mathlib.Core.List.{List, [], _∷_, _++_, append-nil}
 use mathlib.Core.Logic.{_≢_}
 use native.Mathlib.Omega.{arith}
 use lib.ListN.{length, length-append}
 use lib.Dec.{eqb}
 use borrow.Author.Tests.{ne-eqb}
-use Rattle.meaning.specs.Box.{Box, Packet, Link, free, carries, waiting, onLink, packets}
+use Rattle.meaning.specs.Box.{Box, Packet, free, carries, waiting, onLink, packets}
 use Rattle.meaning.specs.Run.{finished}
 use Rattle.words.specs.Contents.{linkOf}
 use Rattle.plan.specs.Parts.{arrivalsIn}

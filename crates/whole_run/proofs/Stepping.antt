@@ -1,5 +1,5 @@
 -- What a step's answer prints, and how the run goes on after it.
-use Prim.Native.Nat.{ℕ, zero, suc, _+_, _≤_}
+use Prim.Native.Nat.{ℕ, _+_, _≤_}
 use mathlib.Core.Path.{_≡_, refl, sym, ap, _∙_, subst}
 use mathlib.Core.List.{List, [], _∷_}
 use mathlib.Core.Logic.{_≢_}
@@ -11,7 +11,7 @@ use Rattle.meaning.specs.Box.{Box}
 use Rattle.meaning.specs.Answers.{refusal, stepped}
 use Rattle.meaning.specs.Step.{moved, afterStep}
 use Rattle.meaning.specs.Plan.{Arrival}
-use Rattle.meaning.specs.Run.{Line, departLine, stopLine, placeOf, departures}
+use Rattle.meaning.specs.Run.{departLine, stopLine, placeOf, departures}
 use Rattle.meaning.specs.Lines.{lineText}
 use Rattle.meaning.proofs.TextMost.{textOf}
 use Rattle.meaning.proofs.RestOfRun.{restOf, afterAnswer}

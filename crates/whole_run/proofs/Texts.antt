@@ -1,16 +1,15 @@
 -- The text of the run of any bytes: refused by reading, refused by opening, or run.
 use Prim.Native.Nat.{ℕ, _/_, _≤_}
-use mathlib.Core.Path.{_≡_, refl, sym, ap, _∙_, subst}
-use mathlib.Core.Bool.{Bool, true, false, cond, not}
-use mathlib.Core.List.{List, [], _∷_}
+use mathlib.Core.Path.{_≡_, refl, sym, ap, _∙_}
+use mathlib.Core.Bool.{true}
+use mathlib.Core.List.{List}
 use native.Mathlib.Omega.{arith}
 use lib.ListN.{length, take}
-use lib.Dec.{ltb}
 use borrow.Author.Tests.{lt-ltb, le-ltb}
 use Rattle.meaning.specs.declared.Header.{Header}
 use Rattle.meaning.specs.declared.Opened.{Opened}
 use Rattle.meaning.specs.declared.PlanRead.{PlanRead}
-use Rattle.meaning.specs.Numbers.{Settings, settingsAllowed}
+use Rattle.meaning.specs.Numbers.{Settings}
 use Rattle.meaning.specs.Answers.{refusal, opened, planRead}
 use Rattle.meaning.specs.Calls.{newBox, openingAnswer}
 use Rattle.meaning.specs.Plan.{wordsOf, contentsOf, readingAnswer, table, factorAt}
@@ -25,7 +24,7 @@ use Rattle.words.specs.Opening as openings
 use Rattle.words.proofs.Opened.{opened-sound, opened-new}
 use Rattle.plan.specs.Parts.{partOf}
 use Rattle.plan.specs.Good.{Readable, read-back}
-use Rattle.lines.specs.Put.{Room, Put, putAt}
+use Rattle.lines.specs.Put.{Room, Put}
 use Rattle.whole_run.specs.declared.running.Printed.{Printed}
 use Rattle.whole_run.specs.Printing.{printingAnswer, textAfter}
 use Rattle.whole_run.proofs.Reached.{text-one}

@@ -1,17 +1,16 @@
 -- A plan that reads well, in a box that is open: its tables, its admissions and the rest of its run.
 use Prim.Native.Nat.{ℕ, _+_, _*_, _/_, _≤_}
-use mathlib.Core.Path.{_≡_, refl, sym, ap, ap₂, _∙_, subst}
+use mathlib.Core.Path.{_≡_, sym, ap, ap₂, _∙_, subst}
 use mathlib.Core.Bool.{true, false, and-eq-true-iff}
 use mathlib.Core.List.{List, _++_}
 use native.Mathlib.Omega.{arith}
-use lib.ListN.{length, take, drop, length-take, length-drop}
+use lib.ListN.{length, take, length-take, length-drop}
 use lib.Dec.{leb}
 use borrow.Author.Tests.{le-leb, not-false}
 use Rattle.laws.specs.Tests.{every}
 use Rattle.laws.specs.Lists.{placedFrom}
 use Rattle.meaning.specs.declared.Header.{Header}
 use Rattle.meaning.specs.declared.Table.{Table}
-use Rattle.meaning.specs.Numbers.{Settings}
 use Rattle.meaning.specs.Box.{Box}
 use Rattle.meaning.specs.Calls.{newBox}
 use Rattle.meaning.specs.Plan.{Plan, Arrival, wordsOf, contentsOf, table, factorAt, connectionAt, neverFallingFrom, lastArrivalSlot, slotsWrong}

@@ -1,8 +1,8 @@
 -- The parts of a whole run, as the functions that print them have them: tables and stretches in bytes, the box in words.
-use Prim.Native.Nat.{ℕ, suc, _+_, _/_, _≤_}
+use Prim.Native.Nat.{ℕ, suc, _/_, _≤_}
 use mathlib.Core.Path.{_≡_}
 use mathlib.Core.Bool.{true}
-use mathlib.Core.List.{List, [], _∷_, _++_}
+use mathlib.Core.List.{List, _++_}
 use lib.ListN.{length, take}
 use lib.Dec.{leb}
 use Rattle.laws.specs.Tests.{every}
@@ -77,18 +77,8 @@ linesOfSlot numbers bytes box = offersNow numbers bytes box .lines ++ departures
 abbrev pub boxAfterSlot : List ℕ → List ℕ → Box → Box
 boxAfterSlot numbers bytes box = afterStep (offersNow numbers bytes box .box) (answerNow numbers bytes box)
 
--- What `run_slot` gives back.
-pub record SlotRun : Type 0 where
-  pub at : ℕ
-  pub passed : ℕ
-  pub answer : ℕ
-  pub departed : ℕ
-
-abbrev pub slotOf : Slot → SlotRun
-slotOf s = record { at = s .at; passed = s .passed; answer = s .answer; departed = s .departed }
-
 -- A slot is run: its lines are printed from `start` on, and the words stand for the box after it.
-pub record RunsSlot (r : SlotRun) (numbers bytes : List ℕ) (box : Box) (ws before out : List ℕ) (start : ℕ) : Type 0 where
+pub record RunsSlot (r : Slot) (numbers bytes : List ℕ) (box : Box) (ws before out : List ℕ) (start : ℕ) : Type 0 where
   pub text : Put before out start (textOf (linesOfSlot numbers bytes box)) (r .at)
   pub passes : r .passed ≡ leading (suc (box .counter)) (arrivalsIn bytes)
   pub answer-is : r .answer ≡ stepped (answerNow numbers bytes box) .number

@@ -15,7 +15,6 @@ use words::opening::open;
 ghost use Prim.Native.Nat.{_≤_};
 ghost use mathlib.Core.Path.{_≡_};
 ghost use mathlib.Core.Bool.{true};
-ghost use mathlib.Core.List.{[], _∷_};
 ghost use lib.ListN.{length};
 ghost use Rattle.meaning.specs.Plan.{wordsOf, contentsOf, factorAt, table};
 ghost use Rattle.meaning.specs.Calls.{newBox};

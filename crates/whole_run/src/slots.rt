@@ -26,7 +26,7 @@ ghost use Rattle.meaning.specs.Run.{departures, finished};
 ghost use Rattle.words.specs.Contents.{contents};
 ghost use Rattle.words.specs.Sound.{soundWords};
 ghost use Rattle.lines.specs.Put.{Room, Put};
-ghost use Rattle.whole_run.specs.Parts.{arrivalsPlaced, slotOf, linesOfSlot, restOfRun, Walked, Sorted, RunsSlot, PassesIdle};
+ghost use Rattle.whole_run.specs.Parts.{arrivalsPlaced, linesOfSlot, restOfRun, Walked, Sorted, RunsSlot, PassesIdle};
 ghost use Rattle.meaning.proofs.TextMost.{textOf};
 
 // The line of a step, if it has one: that of a departure.
@@ -98,7 +98,7 @@ fn run_slot(
 ) -> Slot
     requires { ⌜ (soundWords (now ws) ≡ true) × Walked (now table) (contents (now ws)) passed × Sorted (now table) × (length (now numbers) ≤ 32) ⌝ }
     requires { ⌜ Room (now out) start (textOf (linesOfSlot (now numbers) (now table) (contents (now ws)))) ⌝ }
-    ensures { λ r. ⌜ RunsSlot (slotOf r) (now (numbers .entry)) (now (table .entry)) (contents (now (ws .entry))) (now (ws .exit)) (now (out .entry)) (now (out .exit)) start ⌝ }
+    ensures { λ r. ⌜ RunsSlot r (now (numbers .entry)) (now (table .entry)) (contents (now (ws .entry))) (now (ws .exit)) (now (out .entry)) (now (out .exit)) start ⌝ }
 {
     let slot = counter(ws);
     let due = stretch(table, passed, slot);

@@ -1,6 +1,6 @@
 -- `whole_run::admissions::admit_all`: one admission after another.
-use Prim.Native.Nat.{_-_, _+_, _*_, _≤_, suc}
-use mathlib.Core.Path.{_≡_, refl, sym, ap, _∙_}
+use Prim.Native.Nat.{_-_, _≤_}
+use mathlib.Core.Path.{_≡_, refl, ap, _∙_}
 use native.Mathlib.Omega.{arith}
 use lib.ListN.{length, getD, length-set}
 use Rattle.meaning.specs.declared.Admitted.{Admitted}

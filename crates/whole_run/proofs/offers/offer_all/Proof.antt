@@ -1,6 +1,6 @@
 -- `whole_run::offers::offer_all`: one offer after another.
-use Prim.Native.Nat.{ℕ, _-_, _+_, _*_, _≤_, suc}
-use mathlib.Core.Path.{_≡_, refl, sym, ap, subst, _∙_}
+use Prim.Native.Nat.{ℕ, _-_, _≤_}
+use mathlib.Core.Path.{_≡_, refl, ap, subst, _∙_}
 use native.Mathlib.Omega.{arith}
 use lib.ListN.{length, getD}
 use Rattle.meaning.specs.declared.Offered.{Offered}

@@ -1,6 +1,6 @@
 -- `whole_run::running::copy_factors`: factor after factor.
 use Prim.Native.Nat.{_-_, _≤_}
-use mathlib.Core.Path.{_≡_, refl, sym, ap, _∙_}
+use mathlib.Core.Path.{_≡_, refl}
 use native.Mathlib.Omega.{arith}
 use lib.ListN.{length, take, length-set}
 use Rattle.meaning.specs.Plan.{wordsOf, factorAt, table}

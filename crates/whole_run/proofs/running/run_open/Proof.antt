@@ -1,8 +1,8 @@
 -- `whole_run::running::run_open`: the admissions, and the rest of the run.
-use Prim.Native.Nat.{_/_, _≤_}
-use mathlib.Core.Path.{sym, subst}
+use Prim.Native.Nat.{_/_}
+use mathlib.Core.Path.{sym}
 use native.Mathlib.Omega.{arith}
-use lib.ListN.{length, take}
+use lib.ListN.{length}
 use lib.Seq.{length-take-le}
 use Rattle.whole_run.proofs.Whole.{connections-few, sorted, admissions-room, counter-zero, rest-room, rest-put}
 use borrow.Author.Needs.{needs}
