@@ -6,7 +6,13 @@
 #include <string.h>
 #include <time.h>
 
-uint32_t plan_number(const uint8_t *plan, size_t size);
+#include "zeppilorn.h"
+
+static uint32_t proved_number(const uint8_t *plan, size_t size)
+{
+    uint32_t fields[8];
+    return zeppilorn_read_plan(plan, size, fields);
+}
 
 static uint32_t word(const uint8_t *p)
 {
@@ -59,7 +65,7 @@ int main(int argc, char **argv)
     size_t size = fread(plan, 1, sizeof plan, f);
     double proved = 1e18, plain = 1e18;
     for (int i = 0; i < 2000; i++) {
-        double t = turn(plan_number, plan, size);
+        double t = turn(proved_number, plan, size);
         proved = t < proved ? t : proved;
         t = turn(plain_number, plan, size);
         plain = t < plain ? t : plain;
