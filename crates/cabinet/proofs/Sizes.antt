@@ -14,8 +14,8 @@ use Rattle.plan.specs.Good.{read-facts}
 use Rattle.plan.specs.Calls.{write-facts}
 use Rattle.plan.specs.Written.{lengthsWrong}
 use Rattle.plan.specs.Writing.{lengths-facts, size-of-lent}
-use Rattle.meaning.specs.Lines.{runText}
-use Rattle.meaning.proofs.RunFits.{textMost, run-fits}
+use Rattle.meaning.specs.Lines.{runText, textMost}
+use Rattle.meaning.proofs.RunFits.{run-fits}
 use Rattle.whole_run.specs.declared.running.Printed.{Printed}
 use Rattle.whole_run.specs.Printing.{printed, printingAnswer}
 use Rattle.cabinet.specs.Told.{FitWords}

@@ -24,17 +24,13 @@ use Rattle.meaning.specs.Answers.{refusal, opened, admitted, planRead}
 use Rattle.meaning.specs.Calls.{newBox, openingAnswer, withNewcomer, searchAnswer, admissionAnswer, withStanding, afterAdmission}
 use Rattle.meaning.specs.Plan.{Plan, Arrival, wordsOf, headerOf, contentsOf, table, countsAllowed, layoutWrong, slotsWrong, sizeWrong, sumWrong, readingAnswer, connectionAt, arrivalAt}
 use Rattle.meaning.specs.Run.{Line, admitLine, refusedLine, lineOfAdmission, admitAll, phase, slots, slotsEnough, openRun, planRun, readRun, run}
-use Rattle.meaning.specs.Lines.{lineText, runText}
+use Rattle.meaning.specs.Lines.{runText, textMost}
 use Rattle.meaning.proofs.Facts.{sound-facts, settings-facts}
 use Rattle.meaning.proofs.ArrivalSums.{from, from-start}
 use Rattle.meaning.proofs.KeptByAdmission.{new-box-sound, admission-keeps-sound}
 use Rattle.meaning.proofs.QueueLaws.{empty-flatten}
-use Rattle.meaning.proofs.TextMost.{Printed, PrintedLine, AllPrinted, textOf, text-most}
+use Rattle.meaning.proofs.TextMost.{Printed, PrintedLine, AllPrinted, text-most}
 use Rattle.meaning.proofs.LinesMost.{Tally, Few, few-append, few-more, few-one, one, length-is, slots-few}
-
--- A buffer of this many bytes holds the text of the run of any plan.
-abbrev pub textMost : ℕ
-textMost = 420000
 
 -- An admission: its line has small numbers, and it moves neither the counter nor a packet.
 admission-printed : (box : Box) (c : Connection) (place : ℕ) → sound box ≡ true → Printed place → length (box .standing) ≤ 32
@@ -217,7 +213,7 @@ read-few bytes = go (sizeWrong bytes) (sumWrong (wordsOf bytes)) (layoutWrong (l
 
 -- Whatever the bytes are, the text of their run fits into `textMost` bytes.
 pub run-fits : (bytes : List ℕ) → length (runText bytes) ≤ textMost
-unfolding runText textOf
+unfolding runText
 run-fits bytes =
     let f = read-few bytes in
     let t = text-most (run bytes) (f .printed) in

@@ -10,7 +10,7 @@ use native.Mathlib.Omega.{arith}
 use lib.ListN.{length, getD, length-append}
 use lib.Dec.{leb, ltb, eqb}
 use Rattle.meaning.specs.Run.{Line, admitLine, offerLine, departLine, endLine, refusedLine, stopLine}
-use Rattle.meaning.specs.Lines.{ascii, digit, decimal, numbersText, lineOf, lineText}
+use Rattle.meaning.specs.Lines.{ascii, digit, decimal, numbersText, lineOf, lineText, textOf}
 use Rattle.meaning.proofs.Decimal.{decimal-small, decimal-large}
 
 -- A number below ten to the k has at most k digits.
@@ -50,10 +50,6 @@ line-most (departLine a b c d) p = simp length-append (omega (arith, printed-mos
 line-most (endLine a b c) p = simp length-append (omega (arith, printed-most a (p .0), printed-most b (p .1), printed-most c (p .2)))
 line-most (refusedLine a) p = simp length-append (omega (arith, printed-most a p))
 line-most (stopLine a) p = simp length-append (omega (arith, printed-most a p))
-
--- The text of lines.
-unfoldable pub textOf : List Line → List ℕ
-textOf ls = flatten (map lineText ls)
 
 -- Lines whose numbers are printed numbers.
 abbrev pub AllPrinted : List Line → Type 0

@@ -46,6 +46,14 @@ lineText (endLine counter accepted departed) = lineOf "END" (counter ∷ accepte
 lineText (refusedLine answer) = lineOf "REFUSED" (answer ∷ [])
 lineText (stopLine answer) = lineOf "STOP" (answer ∷ [])
 
+-- The text of lines, one after another.
+unfoldable pub textOf : List Line → List ℕ
+textOf ls = flatten (map lineText ls)
+
 -- What the program prints for these bytes.
 unfoldable pub runText : List ℕ → List ℕ
-runText bytes = flatten (map lineText (run bytes))
+runText bytes = textOf (run bytes)
+
+-- A buffer of this many bytes holds the text of the run of any bytes: proved in `RunFits`.
+abbrev pub textMost : ℕ
+textMost = 420000

@@ -13,8 +13,7 @@ use Rattle.meaning.specs.Answers.{admitted}
 use Rattle.meaning.specs.Calls.{admissionAnswer, afterAdmission}
 use Rattle.meaning.specs.Plan.{wordsOf, connectionAt}
 use Rattle.meaning.specs.Run.{AfterAdmissions, admitLine, lineOfAdmission, admitAll}
-use Rattle.meaning.specs.Lines.{lineText}
-use Rattle.meaning.proofs.TextMost.{textOf}
+use Rattle.meaning.specs.Lines.{lineText, textOf}
 use Rattle.words.specs.Contents.{contents}
 use Rattle.words.specs.Sound.{soundWords}
 use Rattle.plan.specs.Entries.{length-table, getD-table}

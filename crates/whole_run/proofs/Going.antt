@@ -13,8 +13,7 @@ use Rattle.meaning.specs.Calls.{offerAnswer, afterOffer}
 use Rattle.meaning.specs.Step.{moved}
 use Rattle.meaning.specs.Plan.{Arrival}
 use Rattle.meaning.specs.Run.{Line, endLine, stopLine, numberOf, offerAll, departures, finished}
-use Rattle.meaning.specs.Lines.{lineText}
-use Rattle.meaning.proofs.TextMost.{textOf}
+use Rattle.meaning.specs.Lines.{lineText, textOf}
 use Rattle.meaning.proofs.SlotsEnough.{potential}
 use Rattle.meaning.proofs.OfferLines.{offer-counter}
 use Rattle.meaning.proofs.StepLines.{moved-counter}

@@ -13,8 +13,7 @@ use Rattle.meaning.specs.Answers.{offered}
 use Rattle.meaning.specs.Calls.{offerAnswer, afterOffer}
 use Rattle.meaning.specs.Plan.{Arrival, wordsOf, arrivalAt}
 use Rattle.meaning.specs.Run.{AfterOffers, offerLine, numberOf, offerAll}
-use Rattle.meaning.specs.Lines.{lineText}
-use Rattle.meaning.proofs.TextMost.{textOf}
+use Rattle.meaning.specs.Lines.{lineText, textOf}
 use Rattle.words.specs.Contents.{contents}
 use Rattle.words.specs.Sound.{soundWords}
 use Rattle.plan.specs.Parts.{arrivalsIn}

@@ -6,8 +6,7 @@ use native.Mathlib.Omega.{arith}
 use lib.ListN.{length}
 use Rattle.laws.specs.Series.{map-append, flatten-append}
 use Rattle.meaning.specs.Run.{Line}
-use Rattle.meaning.specs.Lines.{lineText}
-use Rattle.meaning.proofs.TextMost.{textOf}
+use Rattle.meaning.specs.Lines.{lineText, textOf}
 use Rattle.lines.specs.Put.{Room, Put}
 use Rattle.lines.proofs.Puts.{put-nothing, then, room-after, room-first, put-length}
 

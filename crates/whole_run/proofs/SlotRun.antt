@@ -11,7 +11,7 @@ use Rattle.meaning.specs.Answers.{stepped}
 use Rattle.meaning.specs.Step.{stepAnswer, afterStep}
 use Rattle.meaning.specs.Plan.{arrivalsOf}
 use Rattle.meaning.specs.Run.{AfterOffers, offerAll, departures}
-use Rattle.meaning.proofs.TextMost.{textOf}
+use Rattle.meaning.specs.Lines.{textOf}
 use Rattle.meaning.proofs.RestOfRun.{dueNow}
 use Rattle.words.specs.Contents.{contents}
 use Rattle.plan.specs.Parts.{arrivalsIn, leading, stretchOf}

@@ -12,8 +12,7 @@ use Rattle.meaning.specs.Answers.{refusal, stepped}
 use Rattle.meaning.specs.Step.{moved, afterStep}
 use Rattle.meaning.specs.Plan.{Arrival}
 use Rattle.meaning.specs.Run.{departLine, stopLine, placeOf, departures}
-use Rattle.meaning.specs.Lines.{lineText}
-use Rattle.meaning.proofs.TextMost.{textOf}
+use Rattle.meaning.specs.Lines.{lineText, textOf}
 use Rattle.meaning.proofs.RestOfRun.{restOf, afterAnswer}
 use Rattle.lines.specs.Put.{Put}
 use Rattle.whole_run.proofs.Reached.{put-none, text-one, text-none}

@@ -14,9 +14,8 @@ use Rattle.meaning.specs.Answers.{refusal, opened, planRead}
 use Rattle.meaning.specs.Calls.{newBox, openingAnswer}
 use Rattle.meaning.specs.Plan.{wordsOf, contentsOf, readingAnswer, table, factorAt}
 use Rattle.meaning.specs.Run.{Line, refusedLine, openRun, planRun, readRun, run}
-use Rattle.meaning.specs.Lines.{lineText, runText}
-use Rattle.meaning.proofs.TextMost.{textOf}
-use Rattle.meaning.proofs.RunFits.{textMost, run-fits}
+use Rattle.meaning.specs.Lines.{lineText, runText, textOf, textMost}
+use Rattle.meaning.proofs.RunFits.{run-fits}
 use Rattle.words.specs.Places.{boxWords}
 use Rattle.words.specs.Contents.{contents}
 use Rattle.words.specs.Sound.{soundWords}
@@ -31,7 +30,7 @@ use Rattle.whole_run.proofs.Reached.{text-one}
 use Rattle.whole_run.proofs.Whole.{factors-are}
 
 run-text : (bytes : List ℕ) → runText bytes ≡ textOf (run bytes)
-unfolding runText textOf
+unfolding runText
 run-text bytes = refl
 
 -- There is room for it.

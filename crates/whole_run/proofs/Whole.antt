@@ -15,7 +15,7 @@ use Rattle.meaning.specs.Box.{Box}
 use Rattle.meaning.specs.Calls.{newBox}
 use Rattle.meaning.specs.Plan.{Plan, Arrival, wordsOf, contentsOf, table, factorAt, connectionAt, neverFallingFrom, lastArrivalSlot, slotsWrong}
 use Rattle.meaning.specs.Run.{AfterAdmissions, admitAll, openRun}
-use Rattle.meaning.proofs.TextMost.{textOf}
+use Rattle.meaning.specs.Lines.{textOf}
 use Rattle.meaning.proofs.SlotsEnough.{admissions-weight}
 use Rattle.meaning.proofs.RestOfRun.{restOf, open-run}
 use Rattle.words.specs.Contents.{contents}

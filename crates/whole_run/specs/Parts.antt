@@ -14,7 +14,7 @@ use Rattle.meaning.specs.Answers.{stepped}
 use Rattle.meaning.specs.Step.{stepAnswer, afterStep}
 use Rattle.meaning.specs.Plan.{Arrival, wordsOf, table, connectionAt, neverFallingFrom, lastArrivalSlot}
 use Rattle.meaning.specs.Run.{Line, AfterAdmissions, AfterOffers, admitAll, offerAll, departures}
-use Rattle.meaning.proofs.TextMost.{textOf}
+use Rattle.meaning.specs.Lines.{textOf}
 use Rattle.meaning.proofs.SlotsEnough.{potential}
 use Rattle.meaning.proofs.RestOfRun.{restOf, dueNow}
 use Rattle.words.specs.Contents.{contents}

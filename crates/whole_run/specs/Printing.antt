@@ -7,8 +7,7 @@ use mathlib.Core.List.{List, [], _∷_}
 use lib.ListN.{length}
 use lib.Dec.{ltb}
 use Rattle.meaning.specs.Answers.{Answer, refusal}
-use Rattle.meaning.specs.Lines.{runText}
-use Rattle.meaning.proofs.RunFits.{textMost}
+use Rattle.meaning.specs.Lines.{runText, textMost}
 use Rattle.lines.specs.Put.{putAt}
 use Rattle.whole_run.specs.declared.running.Printed.{Printed}
 

@@ -14,7 +14,7 @@ ghost use Rattle.words.specs.Contents.{contents};
 ghost use Rattle.words.specs.Sound.{soundWords};
 ghost use Rattle.lines.specs.Put.{Room};
 ghost use Rattle.whole_run.specs.Parts.{admissionsOf, Admits};
-ghost use Rattle.meaning.proofs.TextMost.{textOf};
+ghost use Rattle.meaning.specs.Lines.{textOf};
 
 // The lines of the admissions, and the number of each place of the file, 0 for one that was refused.
 pub fn admit_all(ws: &mut [u32], table: &[u8], numbers: &mut [u32], out: &mut [u8]) -> usize

@@ -13,7 +13,7 @@ ghost use Rattle.words.specs.Contents.{contents};
 ghost use Rattle.words.specs.Sound.{soundWords};
 ghost use Rattle.lines.specs.Put.{Room};
 ghost use Rattle.whole_run.specs.Parts.{offersOf, Offers};
-ghost use Rattle.meaning.proofs.TextMost.{textOf};
+ghost use Rattle.meaning.specs.Lines.{textOf};
 
 // The lines of the offers of a slot, in order; `from` arrivals of the file come before them.
 pub fn offer_all(

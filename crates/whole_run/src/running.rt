@@ -19,12 +19,11 @@ ghost use lib.ListN.{length};
 ghost use Rattle.meaning.specs.Plan.{wordsOf, contentsOf, factorAt, table};
 ghost use Rattle.meaning.specs.Calls.{newBox};
 ghost use Rattle.meaning.specs.Run.{openRun};
-ghost use Rattle.meaning.specs.Lines.{runText};
+ghost use Rattle.meaning.specs.Lines.{runText, textMost, textOf};
 ghost use Rattle.words.specs.Contents.{contents};
 ghost use Rattle.words.specs.Sound.{soundWords};
 ghost use Rattle.plan.specs.Good.{Readable};
 ghost use Rattle.lines.specs.Put.{Room, Put};
-ghost use Rattle.meaning.proofs.TextMost.{textOf};
 ghost use Rattle.whole_run.specs.Printing.{RunPromise};
 
 // Printing the run of a plan: the number of bytes written, or the refusal of a buffer that is too short.
@@ -77,7 +76,7 @@ fn run_read(plan: &[u8], h: Header, out: &mut [u8]) -> usize
 
 // The text of the run of any bytes, into a buffer that holds the longest one.
 fn print_run(plan: &[u8], out: &mut [u8]) -> usize
-    requires { ⌜ 420000 ≤ length (now out) ⌝ }
+    requires { ⌜ textMost ≤ length (now out) ⌝ }
     ensures { λ r. ⌜ Put (now (out .entry)) (now (out .exit)) 0 (runText (now (plan .entry))) r ⌝ }
 {
     let r = read(plan);

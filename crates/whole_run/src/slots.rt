@@ -27,7 +27,7 @@ ghost use Rattle.words.specs.Contents.{contents};
 ghost use Rattle.words.specs.Sound.{soundWords};
 ghost use Rattle.lines.specs.Put.{Room, Put};
 ghost use Rattle.whole_run.specs.Parts.{arrivalsPlaced, linesOfSlot, restOfRun, Walked, Sorted, RunsSlot, PassesIdle};
-ghost use Rattle.meaning.proofs.TextMost.{textOf};
+ghost use Rattle.meaning.specs.Lines.{textOf};
 
 // The line of a step, if it has one: that of a departure.
 fn print_stepped(out: &mut [u8], at: usize, numbers: &[u32], answer: Stepped) -> usize
