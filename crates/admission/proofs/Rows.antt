@@ -11,29 +11,29 @@ use borrow.Author.Tests.{le-leb, lt-leb, leb-true}
 use Rattle.laws.specs.Series.{series, series-last, series-append}
 use Rattle.laws.specs.Sums.{sumOf, largestOf, sum-append}
 use Rattle.laws.specs.Tests.{same-test, bool-cases}
-use Rattle.meaning.specs.Numbers.{Settings, Connection, bound, connectionAllowed}
+use Rattle.meaning.specs.declared.Connection.{Connection}
+use Rattle.meaning.specs.Numbers.{Settings, bound, connectionAllowed}
 use Rattle.meaning.specs.Admission.{term, sumAt, inTheWay, eleven, twelveRange, twelve, conditionAt, rate}
-use Rattle.meaning.specs.Box.{Standing}
+use Rattle.meaning.specs.declared.Standing.{Standing}
 use Rattle.meaning.proofs.Facts.{connection-facts}
-use Rattle.words.specs.Places.{word}
+use Rattle.words.specs.Places.{word, cycleAt, rowCountAt, rowsAt}
 use Rattle.words.specs.Contents.{standingAt, standings, settingsAt}
-use Rattle.admission.specs.declared.Asked.{Asked}
-use Rattle.admission.specs.Asking.{Ready, Allowed, connectionOf, askedAt, withAsked, wayTerm}
+use Rattle.admission.specs.Asking.{Ready, Allowed, askedAt, withAsked, wayTerm}
 use Rattle.admission.proofs.Tables.{cycle-is, cycle-most}
 
 -- What the connections in the first n rows asked for.
 unfoldable pub rowsTo : List ℕ → ℕ → List Connection
-rowsTo ws n = map (λ s. s .asked) (series (standingAt ws) 6 12 n)
+rowsTo ws n = map (λ s. s .asked) (series (standingAt ws) 6 rowsAt n)
 
 row-last : (ws : List ℕ) (n : ℕ) → rowsTo ws (suc n) ≡ rowsTo ws n ++ (askedAt ws n ∷ [])
 unfolding rowsTo
-row-last ws n = ap (map (λ (s : Standing). s .asked)) (series-last (standingAt ws) 6 12 n) ∙ map-append (λ (s : Standing). s .asked) (series (standingAt ws) 6 12 n) (standingAt ws (12 + 6 * n) ∷ [])
+row-last ws n = ap (map (λ (s : Standing). s .asked)) (series-last (standingAt ws) 6 rowsAt n) ∙ map-append (λ (s : Standing). s .asked) (series (standingAt ws) 6 rowsAt n) (standingAt ws (rowsAt + 6 * n) ∷ [])
 
 no-rows : (ws : List ℕ) → rowsTo ws 0 ≡ []
 unfolding rowsTo series
 no-rows ws = refl
 
-pub with-asked : (ws : List ℕ) (c : Asked) → withAsked ws c ≡ rowsTo ws (word ws 11) ++ (connectionOf c ∷ [])
+pub with-asked : (ws : List ℕ) (c : Connection) → withAsked ws c ≡ rowsTo ws (word ws rowCountAt) ++ (c ∷ [])
 unfolding withAsked standings rowsTo
 with-asked ws c = refl
 
@@ -49,8 +49,8 @@ module _ (f : Connection → ℕ) (ws : List ℕ) where
   pub sum-next : (i : ℕ) → sumOf f (rowsTo ws (suc i)) ≡ sumOf f (rowsTo ws i) + f (askedAt ws i)
   sum-next i = ap (sumOf f) (row-last ws i) ∙ sum-one-more (rowsTo ws i) (askedAt ws i)
 
-  pub sum-with : (c : Asked) → sumOf f (withAsked ws c) ≡ sumOf f (rowsTo ws (word ws 11)) + f (connectionOf c)
-  sum-with c = ap (sumOf f) (with-asked ws c) ∙ sum-one-more (rowsTo ws (word ws 11)) (connectionOf c)
+  pub sum-with : (c : Connection) → sumOf f (withAsked ws c) ≡ sumOf f (rowsTo ws (word ws rowCountAt)) + f c
+  sum-with c = ap (sumOf f) (with-asked ws c) ∙ sum-one-more (rowsTo ws (word ws rowCountAt)) c
 
   -- the sum over some rows is at most that over more
   pub sum-partial : (i k : ℕ) → sumOf f (rowsTo ws i) ≤ sumOf f (rowsTo ws (k + i))
@@ -73,24 +73,24 @@ module _ (f : Connection → ℕ) (ws : List ℕ) where
   pub largest-next : (i : ℕ) → largestOf f (rowsTo ws (suc i)) ≡ max (largestOf f (rowsTo ws i)) (f (askedAt ws i))
   largest-next i = ap (largestOf f) (row-last ws i) ∙ largest-one-more (rowsTo ws i) (askedAt ws i)
 
-  pub largest-with : (c : Asked) → largestOf f (withAsked ws c) ≡ max (largestOf f (rowsTo ws (word ws 11))) (f (connectionOf c))
-  largest-with c = ap (largestOf f) (with-asked ws c) ∙ largest-one-more (rowsTo ws (word ws 11)) (connectionOf c)
+  pub largest-with : (c : Connection) → largestOf f (withAsked ws c) ≡ max (largestOf f (rowsTo ws (word ws rowCountAt))) (f c)
+  largest-with c = ap (largestOf f) (with-asked ws c) ∙ largest-one-more (rowsTo ws (word ws rowCountAt)) c
 
 -- What a connection adds to the rate.
 abbrev pub rateTerm : ℕ → Connection → ℕ
 rateTerm cycle c = c .longest * (cycle / c .period)
 
-pub rate-is : (ws : List ℕ) (c : Asked) → sumOf (rateTerm (word ws 1)) (withAsked ws c) ≡ rate (settingsAt ws) (withAsked ws c)
+pub rate-is : (ws : List ℕ) (c : Connection) → sumOf (rateTerm (word ws cycleAt)) (withAsked ws c) ≡ rate (settingsAt ws) (withAsked ws c)
 unfolding rate settingsAt
 rate-is ws c = refl
 
 -- It is at most 64 x 4,096.
-pub rate-most : (ws : List ℕ) (c : Connection) → Ready ws → connectionAllowed (settingsAt ws) c ≡ true → rateTerm (word ws 1) c ≤ 262144
+pub rate-most : (ws : List ℕ) (c : Connection) → Ready ws → connectionAllowed (settingsAt ws) c ≡ true → rateTerm (word ws cycleAt) c ≤ 262144
 rate-most ws c r a =
     let f = connection-facts (settingsAt ws) c a in
     let m = cycle-most ws r in
-    let q = div-le-self (word ws 1) (c .period) in
-    let d : word ws 1 / c .period ≤ 4096 = omega arith in
+    let q = div-le-self (word ws cycleAt) (c .period) in
+    let d : word ws cycleAt / c .period ≤ 4096 = omega arith in
     let p = mul-le-mul (f .longest-most) d in
     omega arith
 
@@ -122,7 +122,7 @@ one-test set cs t = go (twelveRange set t) refl
         let l : sumAt set cs t + inTheWay set cs t ≤ t = leb-true _ _ h in
         and-eq-true-iff (leb (sumAt set cs t) t) (leb (sumAt set cs t + inTheWay set cs t) t) .1 (le-leb (sumAt set cs t) t (omega arith), h)))
 
-module _ (ws : List ℕ) (c : Asked) (t : ℕ) where
+module _ (ws : List ℕ) (c : Connection) (t : ℕ) where
   abbrev theTerm : Connection → ℕ
   theTerm = term (settingsAt ws) t
 
@@ -130,31 +130,31 @@ module _ (ws : List ℕ) (c : Asked) (t : ℕ) where
   theWay = wayTerm (settingsAt ws) t
 
   -- the condition holds where the sum and the packet in the way are at most t
-  pub holds-at : theTerm (connectionOf c) + sumOf theTerm (rowsTo ws (word ws 11)) + max (theWay (connectionOf c)) (largestOf theWay (rowsTo ws (word ws 11))) ≤ t
+  pub holds-at : theTerm c + sumOf theTerm (rowsTo ws (word ws rowCountAt)) + max (theWay c) (largestOf theWay (rowsTo ws (word ws rowCountAt))) ≤ t
       → conditionAt (settingsAt ws) (withAsked ws c) t ≡ true
   unfolding sumAt
   holds-at h =
       let s = sum-with theTerm ws c in
       let w = largest-with theWay ws c in
-      let m = max-comm (theWay (connectionOf c)) (largestOf theWay (rowsTo ws (word ws 11))) in
+      let m = max-comm (theWay c) (largestOf theWay (rowsTo ws (word ws rowCountAt))) in
       one-test (settingsAt ws) (withAsked ws c) t ∙
       le-leb (sumOf theTerm (withAsked ws c) + largestOf theWay (withAsked ws c)) t (omega arith)
 
   -- and fails where they exceed t
-  pub fails-at : t < theTerm (connectionOf c) + sumOf theTerm (rowsTo ws (word ws 11)) + max (theWay (connectionOf c)) (largestOf theWay (rowsTo ws (word ws 11)))
+  pub fails-at : t < theTerm c + sumOf theTerm (rowsTo ws (word ws rowCountAt)) + max (theWay c) (largestOf theWay (rowsTo ws (word ws rowCountAt)))
       → conditionAt (settingsAt ws) (withAsked ws c) t ≡ false
   unfolding sumAt
   fails-at h =
       let s = sum-with theTerm ws c in
       let w = largest-with theWay ws c in
-      let m = max-comm (theWay (connectionOf c)) (largestOf theWay (rowsTo ws (word ws 11))) in
+      let m = max-comm (theWay c) (largestOf theWay (rowsTo ws (word ws rowCountAt))) in
       one-test (settingsAt ws) (withAsked ws c) t ∙
       lt-leb (sumOf theTerm (withAsked ws c) + largestOf theWay (withAsked ws c)) t (omega arith)
 
   -- and fails where the sum over some rows already exceeds t
-  pub fails-early : (i : ℕ) → i ≤ word ws 11 → t < theTerm (connectionOf c) + sumOf theTerm (rowsTo ws i) → conditionAt (settingsAt ws) (withAsked ws c) t ≡ false
+  pub fails-early : (i : ℕ) → i ≤ word ws rowCountAt → t < theTerm c + sumOf theTerm (rowsTo ws i) → conditionAt (settingsAt ws) (withAsked ws c) t ≡ false
   fails-early i k h =
-      let e : word ws 11 - i + i ≡ word ws 11 = omega arith in
-      let p = sum-partial theTerm ws i (word ws 11 - i) in
-      let q : sumOf theTerm (rowsTo ws (word ws 11 - i + i)) ≡ sumOf theTerm (rowsTo ws (word ws 11)) = ap (λ n. sumOf theTerm (rowsTo ws n)) e in
+      let e : word ws rowCountAt - i + i ≡ word ws rowCountAt = omega arith in
+      let p = sum-partial theTerm ws i (word ws rowCountAt - i) in
+      let q : sumOf theTerm (rowsTo ws (word ws rowCountAt - i + i)) ≡ sumOf theTerm (rowsTo ws (word ws rowCountAt)) = ap (λ n. sumOf theTerm (rowsTo ws n)) e in
       fails-at (omega arith)

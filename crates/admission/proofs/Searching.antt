@@ -13,27 +13,27 @@ use Rattle.laws.specs.Found.{found-fails, found-holds}
 use Rattle.laws.specs.Sums.{sumOf, largestOf}
 use Rattle.meaning.specs.Numbers.{classCount, bound, largestBound}
 use Rattle.meaning.specs.Admission.{term, twelveRange, conditionAt, finiteSearch}
-use Rattle.words.specs.Places.{word}
+use Rattle.words.specs.Places.{word, intervalAt, cycleAt, classesAt, rowCountAt}
 use Rattle.words.specs.Contents.{settingsAt}
-use Rattle.admission.specs.declared.Asked.{Asked}
-use Rattle.admission.specs.Asking.{Ready, Allowed, connectionOf, askedAt, withAsked, wayTerm}
+use Rattle.meaning.specs.declared.Connection.{Connection}
+use Rattle.admission.specs.Asking.{Ready, Allowed, askedAt, withAsked, wayTerm}
 use Rattle.admission.proofs.Tables.{class-count, interval-is, cycle-is, cycle-most, interval-most}
 use Rattle.admission.proofs.Rows.{rowsTo, sum-none, sum-next, largest-none, largest-next, holds-at, fails-at, fails-early}
 
 -- What is known once the search begins: the tables, and the numbers read from them.
-pub record Known (ws : List ℕ) (c : Asked) (n interval first last end : ℕ) : Type 0 where
+pub record Known (ws : List ℕ) (c : Connection) (n interval first last end : ℕ) : Type 0 where
   pub ready : Ready ws
   pub allowed : Allowed ws c
-  pub rows-are : n ≡ word ws 11
-  pub interval-is : interval ≡ word ws 0
+  pub rows-are : n ≡ word ws rowCountAt
+  pub interval-is : interval ≡ word ws intervalAt
   pub interval-most : interval ≤ 256
   pub first-is : first ≡ bound (settingsAt ws) 1
   pub last-is : last ≡ largestBound (settingsAt ws)
   pub end-is : end ≡ largestBound (settingsAt ws) + settingsAt ws .cycle
   pub end-most : end ≤ 5120
 
-pub known : (ws : List ℕ) (c : Asked) (first last : ℕ) → Ready ws → Allowed ws c → first ≡ bound (settingsAt ws) 1 → last ≡ bound (settingsAt ws) (word ws 2)
-    → last ≤ 1024 → Known ws c (word ws 11) (word ws 0) first last (last + word ws 1)
+pub known : (ws : List ℕ) (c : Connection) (first last : ℕ) → Ready ws → Allowed ws c → first ≡ bound (settingsAt ws) 1 → last ≡ bound (settingsAt ws) (word ws classesAt)
+    → last ≤ 1024 → Known ws c (word ws rowCountAt) (word ws intervalAt) first last (last + word ws cycleAt)
 unfolding largestBound
 known ws c first last r a f l m =
     let e : last ≡ largestBound (settingsAt ws) = l ∙ ap (bound (settingsAt ws)) (sym (class-count ws)) in
@@ -52,18 +52,18 @@ known ws c first last r a f l m =
     }
 
 -- The outer loop: the condition held at every t passed.
-pub record Searching (ws : List ℕ) (c : Asked) (n interval first last end t : ℕ) : Type 0 where
+pub record Searching (ws : List ℕ) (c : Connection) (n interval first last end t : ℕ) : Type 0 where
   pub knows : Known ws c n interval first last end
   pub t-most : t ≤ end
   pub held : (k : ℕ) → k < t → conditionAt (settingsAt ws) (withAsked ws c) k ≡ true
 
 -- The inner loop: the sum and the packet in the way of the newcomer and of the rows passed.
-pub record Adding (ws : List ℕ) (c : Asked) (n interval first last end t : ℕ) (speaks : Bool) (sum₀ way₀ sum way i : ℕ) : Type 0 where
+pub record Adding (ws : List ℕ) (c : Connection) (n interval first last end t : ℕ) (speaks : Bool) (sum₀ way₀ sum way i : ℕ) : Type 0 where
   pub outer : Searching ws c n interval first last end t
   pub t-below : t < end
   pub speaks-is : speaks ≡ twelveRange (settingsAt ws) t
-  pub term-is : sum₀ ≡ term (settingsAt ws) t (connectionOf c)
-  pub term-way : way₀ ≡ wayTerm (settingsAt ws) t (connectionOf c)
+  pub term-is : sum₀ ≡ term (settingsAt ws) t c
+  pub term-way : way₀ ≡ wayTerm (settingsAt ws) t c
   pub i-most : i ≤ n
   pub sum-is : sum ≡ sum₀ + sumOf (term (settingsAt ws) t) (rowsTo ws i)
   pub way-is : way ≡ max way₀ (largestOf (wayTerm (settingsAt ws) t) (rowsTo ws i))
@@ -71,7 +71,7 @@ pub record Adding (ws : List ℕ) (c : Asked) (n interval first last end t : ℕ
   pub way-most : way ≤ 64
 
 -- The range of (12), as the code tests it.
-pub speaks-range : {ws : List ℕ} {c : Asked} {n interval first last end : ℕ} (t : ℕ) → Known ws c n interval first last end
+pub speaks-range : {ws : List ℕ} {c : Connection} {n interval first last end : ℕ} (t : ℕ) → Known ws c n interval first last end
     → (leb first t && ltb (t + interval) last) ≡ twelveRange (settingsAt ws) t
 unfolding twelveRange
 speaks-range {ws} t k =
@@ -80,10 +80,10 @@ speaks-range {ws} t k =
     let d = k .interval-is ∙ sym (interval-is ws) in
     cc
 
-module _ {ws : List ℕ} {c : Asked} {n interval first last end t : ℕ} where
+module _ {ws : List ℕ} {c : Connection} {n interval first last end t : ℕ} where
   pub begins : Searching ws c n interval first last end t → t < end → {speaks : Bool} {sum way : ℕ}
-      → speaks ≡ twelveRange (settingsAt ws) t → (sum ≡ term (settingsAt ws) t (connectionOf c)) × (sum ≤ 400000)
-      → (way ≡ wayTerm (settingsAt ws) t (connectionOf c)) × (way ≤ 64) → Adding ws c n interval first last end t speaks sum way sum way 0
+      → speaks ≡ twelveRange (settingsAt ws) t → (sum ≡ term (settingsAt ws) t c) × (sum ≤ 400000)
+      → (way ≡ wayTerm (settingsAt ws) t c) × (way ≤ 64) → Adding ws c n interval first last end t speaks sum way sum way 0
   begins s h e a b =
       let x = sum-none (term (settingsAt ws) t) ws in
       let y = largest-none (wayTerm (settingsAt ws) t) ws in
@@ -101,12 +101,12 @@ module _ {ws : List ℕ} {c : Asked} {n interval first last end t : ℕ} where
         way-most = b .1;
       }
 
-module _ {ws : List ℕ} {c : Asked} {n interval first last end t : ℕ} {speaks : Bool} {sum₀ way₀ sum way i : ℕ}
+module _ {ws : List ℕ} {c : Connection} {n interval first last end t : ℕ} {speaks : Bool} {sum₀ way₀ sum way i : ℕ}
     (s : Adding ws c n interval first last end t speaks sum₀ way₀ sum way i)
   where
     -- one row more
-    pub adds : i < n → {r : Asked} {more wider : ℕ} → connectionOf r ≡ askedAt ws i
-        → (more ≡ term (settingsAt ws) t (connectionOf r)) × (more ≤ 400000) → (wider ≡ wayTerm (settingsAt ws) t (connectionOf r)) × (wider ≤ 64)
+    pub adds : i < n → {r : Connection} {more wider : ℕ} → r ≡ askedAt ws i
+        → (more ≡ term (settingsAt ws) t r) × (more ≤ 400000) → (wider ≡ wayTerm (settingsAt ws) t r) × (wider ≤ 64)
         → Adding ws c n interval first last end t speaks sum₀ way₀ (sum + more) (max way wider) (i + 1)
     adds h {r} {more} {wider} e a b =
         let x = sum-next (term (settingsAt ws) t) ws i in
@@ -132,18 +132,18 @@ module _ {ws : List ℕ} {c : Asked} {n interval first last end t : ℕ} {speaks
           way-most = omega arith;
         }
 
-    rows-done : n ≤ i → i ≡ word ws 11
+    rows-done : n ≤ i → i ≡ word ws rowCountAt
     rows-done h = let r = s .outer .knows .rows-are in let m = s .i-most in omega arith
 
-    all-added : n ≤ i → (sum ≡ term (settingsAt ws) t (connectionOf c) + sumOf (term (settingsAt ws) t) (rowsTo ws (word ws 11)))
-        × (way ≡ max (wayTerm (settingsAt ws) t (connectionOf c)) (largestOf (wayTerm (settingsAt ws) t) (rowsTo ws (word ws 11))))
+    all-added : n ≤ i → (sum ≡ term (settingsAt ws) t c + sumOf (term (settingsAt ws) t) (rowsTo ws (word ws rowCountAt)))
+        × (way ≡ max (wayTerm (settingsAt ws) t c) (largestOf (wayTerm (settingsAt ws) t) (rowsTo ws (word ws rowCountAt))))
     all-added h =
         let e = rows-done h in
         let a = s .term-is in
         let b = s .term-way in (
-          s .sum-is ∙ ap (λ k. sum₀ + sumOf (term (settingsAt ws) t) (rowsTo ws k)) e ∙ ap (λ k. k + sumOf (term (settingsAt ws) t) (rowsTo ws (word ws 11))) a,
+          s .sum-is ∙ ap (λ k. sum₀ + sumOf (term (settingsAt ws) t) (rowsTo ws k)) e ∙ ap (λ k. k + sumOf (term (settingsAt ws) t) (rowsTo ws (word ws rowCountAt))) a,
           s .way-is ∙ ap (λ k. max way₀ (largestOf (wayTerm (settingsAt ws) t) (rowsTo ws k))) e ∙
-              ap (λ k. max k (largestOf (wayTerm (settingsAt ws) t) (rowsTo ws (word ws 11)))) b,
+              ap (λ k. max k (largestOf (wayTerm (settingsAt ws) t) (rowsTo ws (word ws rowCountAt)))) b,
         )
 
     -- the condition fails at t
@@ -172,7 +172,7 @@ module _ {ws : List ℕ} {c : Asked} {n interval first last end t : ℕ} {speaks
               ⊎-elim (λ (q : k ≡ t). rw q now) (λ (q : k < t). s .outer .held k q) (eq-or-lt-of-le (let y : k ≤ t = omega arith in y));
         }
 
-module _ {ws : List ℕ} {c : Asked} {n interval first last end t : ℕ} (s : Searching ws c n interval first last end t) where
+module _ {ws : List ℕ} {c : Connection} {n interval first last end t : ℕ} (s : Searching ws c n interval first last end t) where
   pub finds : t < end → conditionAt (settingsAt ws) (withAsked ws c) t ≡ false → failsAt t ≡ finiteSearch (settingsAt ws) (withAsked ws c)
   unfolding finiteSearch
   finds h f =

@@ -8,43 +8,43 @@ use native.Mathlib.Omega.{arith}
 use lib.ListN.{length, getD}
 use borrow.Author.Tests.{le-leb, lt-leb, eq-eqb, ne-eqb, lt-ltb, le-ltb}
 use Rattle.laws.specs.Series.{series, length-series, getD-series}
-use Rattle.meaning.specs.Numbers.{Settings, Connection, classCount, factor, largestFactor, bound, largestBound, connectionAllowed}
+use Rattle.meaning.specs.declared.Connection.{Connection}
+use Rattle.meaning.specs.Numbers.{Settings, classCount, factor, largestFactor, bound, largestBound, connectionAllowed}
 use Rattle.meaning.specs.Envelope.{mayHave, envelope, delayed}
 use Rattle.meaning.specs.Admission.{term, twelveRange}
 use Rattle.meaning.proofs.Facts.{SettingsFacts, ConnectionFacts, settings-facts, connection-facts}
 use Rattle.meaning.proofs.KeptByOffer.{factor-within}
-use Rattle.words.specs.Places.{word}
+use Rattle.words.specs.Places.{word, intervalAt, cycleAt, classesAt, factorsAt, rowCountAt}
 use Rattle.words.specs.Contents.{settingsAt}
-use Rattle.admission.specs.declared.Asked.{Asked}
-use Rattle.admission.specs.Asking.{Ready, Allowed, Small, connectionOf, askedAt, wayTerm}
+use Rattle.admission.specs.Asking.{Ready, Allowed, Small, askedAt, wayTerm}
 
-pub class-count : (ws : List ℕ) → classCount (settingsAt ws) ≡ word ws 2
+pub class-count : (ws : List ℕ) → classCount (settingsAt ws) ≡ word ws classesAt
 unfolding classCount settingsAt
-class-count ws = length-series (λ i. word ws i) 1 3 (word ws 2)
+class-count ws = length-series (λ i. word ws i) 1 factorsAt (word ws classesAt)
 
-pub interval-is : (ws : List ℕ) → settingsAt ws .interval ≡ word ws 0
+pub interval-is : (ws : List ℕ) → settingsAt ws .interval ≡ word ws intervalAt
 unfolding settingsAt
 interval-is ws = refl
 
-pub cycle-is : (ws : List ℕ) → settingsAt ws .cycle ≡ word ws 1
+pub cycle-is : (ws : List ℕ) → settingsAt ws .cycle ≡ word ws cycleAt
 unfolding settingsAt
 cycle-is ws = refl
 
 -- the factor of class k lies at word 2 + k
-pub factor-is : (ws : List ℕ) (k : ℕ) → 1 ≤ k → k ≤ word ws 2 → factor (settingsAt ws) k ≡ word ws (2 + k)
+pub factor-is : (ws : List ℕ) (k : ℕ) → 1 ≤ k → k ≤ word ws classesAt → factor (settingsAt ws) k ≡ word ws (factorsAt - 1 + k)
 unfolding factor settingsAt
 factor-is ws k h l =
     let e : 3 + 1 * (k - 1) ≡ 2 + k = omega arith in
-    getD-series (λ i. word ws i) 1 3 (word ws 2) (k - 1) 0 (omega arith) ∙ ap (λ i. word ws i) e
+    getD-series (λ i. word ws i) 1 factorsAt (word ws classesAt) (k - 1) 0 (omega arith) ∙ ap (λ i. word ws i) e
 
-pub bound-is : (ws : List ℕ) (k : ℕ) → 1 ≤ k → k ≤ word ws 2 → bound (settingsAt ws) k ≡ word ws (2 + k) * word ws 0
+pub bound-is : (ws : List ℕ) (k : ℕ) → 1 ≤ k → k ≤ word ws classesAt → bound (settingsAt ws) k ≡ word ws (factorsAt - 1 + k) * word ws intervalAt
 unfolding bound settingsAt
-bound-is ws k h l = ap (λ f. f * word ws 0) (factor-is ws k h l)
+bound-is ws k h l = ap (λ f. f * word ws intervalAt) (factor-is ws k h l)
 
 pub facts : (ws : List ℕ) → Ready ws → SettingsFacts (settingsAt ws)
 facts ws r = settings-facts (settingsAt ws) (r .settings)
 
-pub bound-most : (ws : List ℕ) (k : ℕ) → Ready ws → 1 ≤ k → k ≤ word ws 2 → bound (settingsAt ws) k ≤ 1024
+pub bound-most : (ws : List ℕ) (k : ℕ) → Ready ws → 1 ≤ k → k ≤ word ws classesAt → bound (settingsAt ws) k ≤ 1024
 unfolding bound largestBound largestFactor
 bound-most ws k r h l =
     let f = facts ws r in
@@ -53,7 +53,7 @@ bound-most ws k r h l =
     let b = f .bound-most in
     omega arith
 
-pub classes-within : (ws : List ℕ) → Ready ws → (1 ≤ word ws 2) × (word ws 2 ≤ 8)
+pub classes-within : (ws : List ℕ) → Ready ws → (1 ≤ word ws classesAt) × (word ws classesAt ≤ 8)
 classes-within ws r =
     let f = facts ws r in
     let c = class-count ws in
@@ -62,15 +62,15 @@ classes-within ws r =
     (omega arith, omega arith)
 
 -- the connection's facts, as the code has it
-pub asked-facts : (ws : List ℕ) (c : Asked) → Allowed ws c → ConnectionFacts (settingsAt ws) (connectionOf c)
-asked-facts ws c a = connection-facts (settingsAt ws) (connectionOf c) a
+pub asked-facts : (ws : List ℕ) (c : Connection) → Allowed ws c → ConnectionFacts (settingsAt ws) c
+asked-facts ws c a = connection-facts (settingsAt ws) c a
 
-pub asked-small : (ws : List ℕ) (c : Asked) → Allowed ws c → Small c
+pub asked-small : (ws : List ℕ) (c : Connection) → Allowed ws c → Small c
 asked-small ws c a =
     let f = asked-facts ws c a in
     record { longest-most = f .longest-most; burst-most = f .burst-most; period-least = f .period-least }
 
-pub asked-class : (ws : List ℕ) (c : Asked) → Allowed ws c → (1 ≤ c .class) × (c .class ≤ word ws 2)
+pub asked-class : (ws : List ℕ) (c : Connection) → Allowed ws c → (1 ≤ c .class) × (c .class ≤ word ws classesAt)
 asked-class ws c a =
     let f = asked-facts ws c a in
     let k = class-count ws in
@@ -82,8 +82,8 @@ pub product-most : (s n : ℕ) → s ≤ 64 → n ≤ 6064 → s * n ≤ 400000
 product-most s n h k = let m = mul-le-mul h k in omega arith
 
 -- The bound of a class, as the code computes it.
-pub bound-code : (ws : List ℕ) (k : ℕ) → Ready ws → 1 ≤ k → k ≤ word ws 2
-    → (word ws (2 + k) * word ws 0 ≡ bound (settingsAt ws) k) × (word ws (2 + k) * word ws 0 ≤ 1024)
+pub bound-code : (ws : List ℕ) (k : ℕ) → Ready ws → 1 ≤ k → k ≤ word ws classesAt
+    → (word ws (factorsAt - 1 + k) * word ws intervalAt ≡ bound (settingsAt ws) k) × (word ws (factorsAt - 1 + k) * word ws intervalAt ≤ 1024)
 bound-code ws k r h l =
     let e = bound-is ws k h l in
     let m = bound-most ws k r h l in
@@ -98,14 +98,14 @@ pub delayed-some : (E : ℕ → ℕ) (d t : ℕ) → d ≤ t → E (t - d) ≡ d
 unfolding delayed
 delayed-some E d t h = rw (le-leb d t h) refl
 
-pub envelope-is : (c : Asked) (t : ℕ) → c .longest * (c .burst + t / c .period) ≡ envelope (connectionOf c) t
+pub envelope-is : (c : Connection) (t : ℕ) → c .longest * (c .burst + t / c .period) ≡ envelope c t
 unfolding envelope mayHave
 envelope-is c t = refl
 
-pub count-most : (c : Asked) (d t : ℕ) → Small c → t ≤ 6000 → c .burst + (t - d) / c .period ≤ 6064
+pub count-most : (c : Connection) (d t : ℕ) → Small c → t ≤ 6000 → c .burst + (t - d) / c .period ≤ 6064
 count-most c d t s h = let q = div-le-self (t - d) (c .period) in let b = s .burst-most in omega arith
 
-pub units-most : (c : Asked) (d t : ℕ) → Small c → t ≤ 6000 → c .longest * (c .burst + (t - d) / c .period) ≤ 400000
+pub units-most : (c : Connection) (d t : ℕ) → Small c → t ≤ 6000 → c .longest * (c .burst + (t - d) / c .period) ≤ 400000
 units-most c d t s h = product-most (c .longest) (c .burst + (t - d) / c .period) (s .longest-most) (count-most c d t s h)
 
 -- What a connection adds, by its class.
@@ -114,7 +114,7 @@ unfolding term
 term-first ws c t e = rw (eq-eqb (c .class) 1 e) refl
 
 pub term-above : (ws : List ℕ) (c : Connection) (t : ℕ) → (c .class ≡ 1 → ⊥)
-    → delayed (envelope c) (bound (settingsAt ws) (c .class)) (t + word ws 0) ≡ term (settingsAt ws) t c
+    → delayed (envelope c) (bound (settingsAt ws) (c .class)) (t + word ws intervalAt) ≡ term (settingsAt ws) t c
 unfolding term settingsAt
 term-above ws c t e = rw (ne-eqb (c .class) 1 e) refl
 
@@ -123,25 +123,25 @@ pub way-silent : (ws : List ℕ) (c : Connection) (t : ℕ) → twelveRange (set
 unfolding wayTerm
 way-silent ws c t e = rw e refl
 
-pub way-longest : (ws : List ℕ) (c : Connection) (t : ℕ) → twelveRange (settingsAt ws) t ≡ true → t + word ws 0 < bound (settingsAt ws) (c .class)
+pub way-longest : (ws : List ℕ) (c : Connection) (t : ℕ) → twelveRange (settingsAt ws) t ≡ true → t + word ws intervalAt < bound (settingsAt ws) (c .class)
     → c .longest ≡ wayTerm (settingsAt ws) t c
 unfolding wayTerm settingsAt
-way-longest ws c t e h = rw (e, lt-ltb (t + word ws 0) (bound (settingsAt ws) (c .class)) h) refl
+way-longest ws c t e h = rw (e, lt-ltb (t + word ws intervalAt) (bound (settingsAt ws) (c .class)) h) refl
 
-pub way-nothing : (ws : List ℕ) (c : Connection) (t : ℕ) → bound (settingsAt ws) (c .class) ≤ t + word ws 0 → 0 ≡ wayTerm (settingsAt ws) t c
+pub way-nothing : (ws : List ℕ) (c : Connection) (t : ℕ) → bound (settingsAt ws) (c .class) ≤ t + word ws intervalAt → 0 ≡ wayTerm (settingsAt ws) t c
 unfolding wayTerm settingsAt
-way-nothing ws c t h = rw (le-ltb (t + word ws 0) (bound (settingsAt ws) (c .class)) h) (either (twelveRange (settingsAt ws) t))
+way-nothing ws c t h = rw (le-ltb (t + word ws intervalAt) (bound (settingsAt ws) (c .class)) h) (either (twelveRange (settingsAt ws) t))
   where
     either : (b : Bool) → 0 ≡ cond b (cond false (c .longest) 0) 0
     either true = refl
     either false = refl
 
-pub interval-most : (ws : List ℕ) → Ready ws → word ws 0 ≤ 256
+pub interval-most : (ws : List ℕ) → Ready ws → word ws intervalAt ≤ 256
 interval-most ws r = let e = interval-is ws in let m = facts ws r .interval-most in omega arith
 
-pub cycle-most : (ws : List ℕ) → Ready ws → word ws 1 ≤ 4096
+pub cycle-most : (ws : List ℕ) → Ready ws → word ws cycleAt ≤ 4096
 cycle-most ws r = let e = cycle-is ws in let m = facts ws r .cycle-most in omega arith
 
 -- A row that was read is that of an allowed connection.
-pub row-allowed : (ws : List ℕ) (i : ℕ) (c : Asked) → Ready ws → i < word ws 11 → connectionOf c ≡ askedAt ws i → Allowed ws c
+pub row-allowed : (ws : List ℕ) (i : ℕ) (c : Connection) → Ready ws → i < word ws rowCountAt → c ≡ askedAt ws i → Allowed ws c
 row-allowed ws i c r h e = rw e (r .each i h)

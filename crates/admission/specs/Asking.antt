@@ -6,38 +6,34 @@ use mathlib.Core.List.{List, [], _∷_, _++_, map}
 use lib.ListN.{length}
 use lib.Dec.{ltb}
 use Rattle.laws.specs.Search.{Search, failsAt, holds}
-use Rattle.meaning.specs.Numbers.{Settings, Connection, bound, settingsAllowed, connectionAllowed}
+use Rattle.meaning.specs.declared.Connection.{Connection}
+use Rattle.meaning.specs.Numbers.{Settings, bound, settingsAllowed, connectionAllowed}
 use Rattle.meaning.specs.Admission.{twelveRange}
-use Rattle.words.specs.Places.{boxWords, word}
+use Rattle.words.specs.Places.{boxWords, word, rowCountAt, rowsAt}
 use Rattle.words.specs.Contents.{settingsAt, standingAt, standings}
-use Rattle.admission.specs.declared.Asked.{Asked}
 use Rattle.admission.specs.declared.Found.{Found}
-
--- The connection of document 01 that is asked for.
-abbrev pub connectionOf : Asked → Connection
-connectionOf c = record { class = c .class; longest = c .longest; burst = c .burst; period = c .period }
 
 -- What the connection in row i asked for.
 abbrev pub askedAt : List ℕ → ℕ → Connection
-askedAt ws i = standingAt ws (12 + 6 * i) .asked
+askedAt ws i = standingAt ws (rowsAt + 6 * i) .asked
 
 -- "the set with the newcomer".
-unfoldable pub withAsked : List ℕ → Asked → List Connection
-withAsked ws c = map (λ s. s .asked) (standings ws) ++ (connectionOf c ∷ [])
+unfoldable pub withAsked : List ℕ → Connection → List Connection
+withAsked ws c = map (λ s. s .asked) (standings ws) ++ (c ∷ [])
 
 -- The words have all tables, with numbers that are allowed.
 pub record Ready (ws : List ℕ) : Type 0 where
   pub enough : boxWords ≤ length ws
   pub settings : settingsAllowed (settingsAt ws) ≡ true
-  pub rows : word ws 11 ≤ 32
-  pub each : (i : ℕ) → i < word ws 11 → connectionAllowed (settingsAt ws) (askedAt ws i) ≡ true
+  pub rows : word ws rowCountAt ≤ 32
+  pub each : (i : ℕ) → i < word ws rowCountAt → connectionAllowed (settingsAt ws) (askedAt ws i) ≡ true
 
 -- The newcomer's numbers are allowed.
-abbrev pub Allowed : List ℕ → Asked → Type 0
-Allowed ws c = connectionAllowed (settingsAt ws) (connectionOf c) ≡ true
+abbrev pub Allowed : List ℕ → Connection → Type 0
+Allowed ws c = connectionAllowed (settingsAt ws) c ≡ true
 
 -- Numbers that are small enough for the sums.
-pub record Small (c : Asked) : Type 0 where
+pub record Small (c : Connection) : Type 0 where
   pub longest-most : c .longest ≤ 64
   pub burst-most : c .burst ≤ 64
   pub period-least : 1 ≤ c .period

@@ -1,4 +1,6 @@
 // The rate and the search for the first failing t, over the connections in words. Document 01, "Admission".
+use meaning::Connection;
+use words::places::ROWS_AT;
 ghost use mathlib.Core.Path.{_≡_};
 ghost use Prim.Native.Nat.{_≤_, _<_, max};
 ghost use Rattle.meaning.specs.Numbers.{bound};
@@ -7,17 +9,9 @@ ghost use Rattle.meaning.specs.Admission.{term, rate as rateIs, twelveRange, fi
 ghost use mathlib.Core.Bool.{_&&_};
 ghost use Prim.Native.Nat.{_+_};
 ghost use lib.Dec.{leb, ltb};
-ghost use Rattle.words.specs.Places.{word};
+ghost use Rattle.words.specs.Places.{word, classesAt};
 ghost use Rattle.words.specs.Contents.{settingsAt};
-ghost use Rattle.admission.specs.Asking.{Ready, Allowed, Small, connectionOf, askedAt, withAsked, wayTerm, searchOf};
-
-// What a connection asks for: its class, longest packet s, burst b and period T.
-pub struct Asked {
-    pub class: u32,
-    pub longest: u32,
-    pub burst: u32,
-    pub period: u32,
-}
+ghost use Rattle.admission.specs.Asking.{Ready, Allowed, Small, askedAt, withAsked, wayTerm, searchOf};
 
 // What the search finds: the first t that fails, or that none does.
 pub enum Found {
@@ -26,12 +20,12 @@ pub enum Found {
 }
 
 // What the connection in row i asked for.
-pub fn asked_at(ws: &[u32], i: usize) -> Asked
+pub fn asked_at(ws: &[u32], i: usize) -> Connection
     requires { ⌜ Ready (now ws) × (i < 32) ⌝ }
-    ensures { λ r. ⌜ connectionOf r ≡ askedAt (now (ws .entry)) i ⌝ }
+    ensures { λ r. ⌜ r ≡ askedAt (now (ws .entry)) i ⌝ }
 {
-    let at = 12 + 6 * i;
-    Asked {
+    let at = ROWS_AT + 6 * i;
+    Connection {
         class: ws[at],
         longest: ws[at + 1],
         burst: ws[at + 2],
@@ -40,9 +34,9 @@ pub fn asked_at(ws: &[u32], i: usize) -> Asked
 }
 
 // E(t - d): nothing where d is above t.
-fn delayed(c: Asked, d: u32, t: u32) -> u32
+fn delayed(c: Connection, d: u32, t: u32) -> u32
     requires { ⌜ Small c × (t ≤ 6000) ⌝ }
-    ensures { λ r. ⌜ (r ≡ delayedIs (envelope (connectionOf c)) d t) × (r ≤ 400000) ⌝ }
+    ensures { λ r. ⌜ (r ≡ delayedIs (envelope c) d t) × (r ≤ 400000) ⌝ }
 {
     if t < d {
         return 0;
@@ -52,7 +46,7 @@ fn delayed(c: Asked, d: u32, t: u32) -> u32
 
 // The bound of a class.
 fn bound_of(ws: &[u32], class: u32) -> u32
-    requires { ⌜ Ready (now ws) × ((1 ≤ class) × (class ≤ word (now ws) 2)) ⌝ }
+    requires { ⌜ Ready (now ws) × ((1 ≤ class) × (class ≤ word (now ws) classesAt)) ⌝ }
     ensures { λ r. ⌜ (r ≡ bound (settingsAt (now (ws .entry))) class) × (r ≤ 1024) ⌝ }
 {
     let at = class as usize;
@@ -60,9 +54,9 @@ fn bound_of(ws: &[u32], class: u32) -> u32
 }
 
 // What one connection adds to the sum at t.
-fn term_of(ws: &[u32], c: Asked, t: u32) -> u32
+fn term_of(ws: &[u32], c: Connection, t: u32) -> u32
     requires { ⌜ Ready (now ws) × (Allowed (now ws) c × (t ≤ 5500)) ⌝ }
-    ensures { λ r. ⌜ (r ≡ term (settingsAt (now (ws .entry))) t (connectionOf c)) × (r ≤ 400000) ⌝ }
+    ensures { λ r. ⌜ (r ≡ term (settingsAt (now (ws .entry))) t c) × (r ≤ 400000) ⌝ }
 {
     let class = c.class;
     let d = bound_of(ws, class);
@@ -73,9 +67,9 @@ fn term_of(ws: &[u32], c: Asked, t: u32) -> u32
 }
 
 // What one connection counts for as the packet in the way at t: its longest packet, where (12) speaks of t and its bound exceeds t + D.
-fn way_of(ws: &[u32], c: Asked, t: u32, speaks: bool) -> u32
+fn way_of(ws: &[u32], c: Connection, t: u32, speaks: bool) -> u32
     requires { ⌜ Ready (now ws) × (Allowed (now ws) c × ((t ≤ 5500) × (speaks ≡ twelveRange (settingsAt (now ws)) t))) ⌝ }
-    ensures { λ r. ⌜ (r ≡ wayTerm (settingsAt (now (ws .entry))) t (connectionOf c)) × (r ≤ 64) ⌝ }
+    ensures { λ r. ⌜ (r ≡ wayTerm (settingsAt (now (ws .entry))) t c) × (r ≤ 64) ⌝ }
 {
     if !speaks {
         return 0;
@@ -110,7 +104,7 @@ fn speaks_of(first: u32, last: u32, interval: u32, t: u32) -> bool
 }
 
 // The sum of s x (M/T), with the newcomer.
-pub fn rate(ws: &[u32], c: Asked) -> u32
+pub fn rate(ws: &[u32], c: Connection) -> u32
     requires { ⌜ Ready (now ws) × Allowed (now ws) c ⌝ }
     ensures { λ r. ⌜ r ≡ rateIs (settingsAt (now (ws .entry))) (withAsked (now (ws .entry)) c) ⌝ }
 {
@@ -127,7 +121,7 @@ pub fn rate(ws: &[u32], c: Asked) -> u32
 }
 
 // The first t of 0 to dP + M - 1 at which (11) or (12) fails, with the newcomer.
-pub fn first_failing(ws: &[u32], c: Asked) -> Found
+pub fn first_failing(ws: &[u32], c: Connection) -> Found
     requires { ⌜ Ready (now ws) × Allowed (now ws) c ⌝ }
     ensures { λ r. ⌜ searchOf r ≡ finiteSearch (settingsAt (now (ws .entry))) (withAsked (now (ws .entry)) c) ⌝ }
 {

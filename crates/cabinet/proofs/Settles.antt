@@ -4,7 +4,7 @@ use Prim.Native.Nat.{ℕ}
 use mathlib.Core.Path.{_≡_}
 use mathlib.Core.List.{List}
 use Rattle.meaning.specs.Answers.{Answer}
-use Rattle.meaning.specs.Numbers.{Connection}
+use Rattle.meaning.specs.declared.Connection.{Connection}
 use Rattle.meaning.specs.Plan.{Lent}
 use Rattle.words.proofs.Settles.{one}
 use Rattle.cabinet.specs.Told.{Told}

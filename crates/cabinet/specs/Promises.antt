@@ -6,7 +6,7 @@ use mathlib.Core.Bool.{cond}
 use mathlib.Core.List.{List, [], _∷_}
 use lib.ListN.{length}
 use Rattle.meaning.specs.Answers
-use Rattle.meaning.specs.Numbers.{Connection}
+use Rattle.meaning.specs.declared.Connection.{Connection}
 use Rattle.meaning.specs.Plan.{Lent, wordsOf, factorAt, connectionAt, arrivalAt, connectionWords, arrivalWords, readingAnswer, writingAnswer}
 use Rattle.words.specs.Places.{boxWords}
 use Rattle.words.specs.Opening

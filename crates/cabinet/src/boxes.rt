@@ -7,6 +7,7 @@ use multiplexer::admitting::admit;
 use multiplexer::offering::offer;
 use multiplexer::stepping::step;
 use words::opening::open;
+use words::places::BOX_WORDS;
 use words::soundness::is_sound;
 ghost use Rattle.cabinet.specs.Promises.{BoxWordsPromise, OpenPromise, SoundPromise, AdmitPromise, OfferPromise, StepPromise};
 
@@ -15,7 +16,7 @@ ghost use Rattle.cabinet.specs.Promises.{BoxWordsPromise, OpenPromise, S
 pub extern "C" fn zeppilorn_box_words() -> usize
     ensures { λ r. ⌜ BoxWordsPromise r ⌝ }
 {
-    4371
+    BOX_WORDS
 }
 
 // Opens a box in the lent words: 0, 2 or 17.

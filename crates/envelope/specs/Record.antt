@@ -1,15 +1,11 @@
--- The allowance as the code has it, and the allowance of document 01 that it means.
+-- What the functions on an allowance ask of it.
 use Prim.Native.Nat.{ℕ, _≤_}
 use mathlib.Core.Path.{_≡_}
 use mathlib.Core.Bool.{true}
-use Rattle.meaning.specs.Numbers.{Connection, lastSlot}
+use Rattle.meaning.specs.declared.Connection.{Connection}
+use Rattle.meaning.specs.Numbers.{lastSlot}
 use Rattle.meaning.specs.Envelope.{allowanceKept}
-use Rattle.meaning.specs.Envelope as Envelope
-use Rattle.envelope.specs.declared.Allowance.{Allowance}
-
--- The allowance of document 01 that this one means.
-abbrev pub meant : Allowance → Envelope.Allowance
-meant a = record { next = a .next; credit = a .credit }
+use Rattle.meaning.specs.declared.Allowance.{Allowance}
 
 -- A connection of this burst and period: the envelope uses no more of it.
 abbrev pub sender : ℕ → ℕ → Connection
@@ -22,4 +18,4 @@ pub record Ready (burst period : ℕ) (a : Allowance) (slot : ℕ) : Type 0 wher
   pub period-least : 1 ≤ period
   pub period-most : period ≤ 4096
   pub slot-most : slot ≤ lastSlot
-  pub kept : allowanceKept (sender burst period) slot (meant a) ≡ true
+  pub kept : allowanceKept (sender burst period) slot a ≡ true

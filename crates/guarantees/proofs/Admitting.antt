@@ -12,7 +12,8 @@ use Rattle.laws.specs.SumLaws.{sum-zero}
 use Rattle.laws.specs.Tests.{every-at}
 use Rattle.laws.specs.Finding.{Least, first-failing-fails, first-failing-holds}
 use Rattle.meaning.specs.declared.Admitted.{Admitted}
-use Rattle.meaning.specs.Numbers.{Connection, connectionAllowed, mostConnections, Settings, bound}
+use Rattle.meaning.specs.declared.Connection.{Connection}
+use Rattle.meaning.specs.Numbers.{connectionAllowed, mostConnections, Settings, bound}
 use Rattle.meaning.specs.Envelope.{delayed}
 use Rattle.meaning.specs.Admission.{term, sumAt, conditionAt, HoldsWithoutEnd, finiteSearch}
 use Rattle.meaning.specs.Box.{Box, connections, sound}

@@ -14,9 +14,11 @@ use Rattle.laws.specs.Tests.{within, within-test}
 use Rattle.laws.specs.Sums.{sumOf}
 use Rattle.laws.specs.SumLaws.{given, given-false, sum-mono, sum-zero}
 use Rattle.laws.specs.Groups.{across, partOf, sum-groups, across-below, across-spare}
-use Rattle.meaning.specs.Numbers.{Connection, bound}
+use Rattle.meaning.specs.declared.Connection.{Connection}
+use Rattle.meaning.specs.Numbers.{bound}
 use Rattle.meaning.specs.Envelope.{delayed}
-use Rattle.meaning.specs.Box.{Box, Packet, connections, connection, noConnection}
+use Rattle.meaning.specs.declared.Packet.{Packet}
+use Rattle.meaning.specs.Box.{Box, connections, connection, noConnection}
 use Rattle.guarantees.proofs.AnyEnvelope.{termOf}
 use Rattle.guarantees.proofs.Backlog.{arrivedSince}
 use Rattle.guarantees.proofs.Known.{Known}

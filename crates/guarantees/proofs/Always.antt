@@ -3,7 +3,8 @@ use mathlib.Core.Path.{_≡_}
 use mathlib.Core.Bool.{true}
 use mathlib.Core.List.{List, [], _∷_}
 use Rattle.meaning.specs.Numbers.{Settings, settingsAllowed}
-use Rattle.meaning.specs.Box.{Box, Packet, sound}
+use Rattle.meaning.specs.declared.Packet.{Packet}
+use Rattle.meaning.specs.Box.{Box, sound}
 use Rattle.meaning.specs.Calls.{newBox}
 use Rattle.meaning.proofs.KeepsSound.{admission-keeps-sound, offer-keeps-sound, step-keeps-sound}
 use Rattle.guarantees.specs.Runs.{Call, admit, offer, step, after, boxAfter, Departure, boxOf, acceptedOf, departedOf}

@@ -9,7 +9,8 @@ use native.Mathlib.Omega.{arith}
 use Rattle.laws.specs.Sums.{sumOf, sum-add}
 use Rattle.laws.specs.SumLaws.{sum-same}
 use Rattle.laws.specs.Gaining.{all-follow, some-passes}
-use Rattle.meaning.specs.Numbers.{Settings, Connection, bound, largestBound}
+use Rattle.meaning.specs.declared.Connection.{Connection}
+use Rattle.meaning.specs.Numbers.{Settings, bound, largestBound}
 use Rattle.meaning.specs.Envelope.{delayed, IsEnvelope}
 
 -- What one connection adds to the sum at t, with E for its envelope.

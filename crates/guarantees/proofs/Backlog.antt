@@ -13,7 +13,8 @@ use Rattle.laws.specs.Tests.{bool-cases}
 use Rattle.laws.specs.Sums.{sumOf, sum-append}
 use Rattle.laws.specs.SumLaws.{given, given-true, given-false, sum-one, sum-member}
 use Rattle.laws.specs.Putting.{Put}
-use Rattle.meaning.specs.Box.{Packet, Link, free, carries}
+use Rattle.meaning.specs.declared.Packet.{Packet}
+use Rattle.meaning.specs.Box.{Link, free, carries}
 
 -- Units still to be sent of the packets of q that wait.
 unfoldable pub waitingWork : (Packet → Bool) → List Packet → ℕ

@@ -15,7 +15,8 @@ use Rattle.laws.specs.SumLaws.{sum-one}
 use Rattle.laws.specs.Putting.{Put, Same, sum-flatten-last}
 use Rattle.meaning.specs.Numbers.{risingAbove}
 use Rattle.meaning.specs.Queues.{joinTail, turned, lowestHead, withoutLowestHead}
-use Rattle.meaning.specs.Box.{Box, Packet, rankIn, inTheirQueues, serialsRise, sound}
+use Rattle.meaning.specs.declared.Packet.{Packet}
+use Rattle.meaning.specs.Box.{Box, rankIn, inTheirQueues, serialsRise, sound}
 use Rattle.meaning.proofs.Facts.{sound-facts}
 use Rattle.meaning.proofs.QueueLaws.{joined-member, turned-member}
 

@@ -10,7 +10,8 @@ use Rattle.laws.specs.SumLaws.{given, given-true, sum-member}
 use Rattle.meaning.specs.Numbers.{factor, bound}
 use Rattle.meaning.specs.Queues.{rank}
 use Rattle.meaning.specs.Envelope.{envelope}
-use Rattle.meaning.specs.Box.{Box, Packet, carries, connection, waiting, rankIn}
+use Rattle.meaning.specs.declared.Packet.{Packet}
+use Rattle.meaning.specs.Box.{Box, carries, connection, waiting, rankIn}
 use Rattle.meaning.proofs.Facts.{ConnectionFacts}
 use Rattle.guarantees.specs.Runs.{InBox}
 use Rattle.guarantees.proofs.Classes.{factor-rises, bound-apart}

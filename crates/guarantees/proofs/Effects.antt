@@ -12,7 +12,9 @@ use Rattle.laws.specs.Tests.{within-facts}
 use Rattle.laws.specs.Putting.{Put, Same, same-refl}
 use Rattle.laws.specs.Lists.{getD-member}
 use Rattle.meaning.specs.Numbers.{factor}
-use Rattle.meaning.specs.Box.{Box, Standing, Packet, Link, free, carries, connections, connection, noConnection, stands, waiting, sound}
+use Rattle.meaning.specs.declared.Standing.{Standing}
+use Rattle.meaning.specs.declared.Packet.{Packet}
+use Rattle.meaning.specs.Box.{Box, Link, free, carries, connections, connection, noConnection, stands, waiting, sound}
 use Rattle.meaning.specs.Queues.{turned, lowestHead, withoutLowestHead}
 use Rattle.meaning.specs.Calls.{afterOffer, joined}
 use Rattle.meaning.specs.Step.{loaded, linkTaken, queuesTaken, linkSent, turnDue, queuesStepped, moved}

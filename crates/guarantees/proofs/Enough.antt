@@ -11,7 +11,8 @@ use Rattle.laws.specs.SumLaws.{largest-member}
 use Rattle.meaning.specs.Numbers.{bound}
 use Rattle.meaning.specs.Envelope.{envelope, delayed}
 use Rattle.meaning.specs.Admission.{term, sumAt, inTheWay}
-use Rattle.meaning.specs.Box.{Box, Packet, connections, connection}
+use Rattle.meaning.specs.declared.Packet.{Packet}
+use Rattle.meaning.specs.Box.{Box, connections, connection}
 use Rattle.meaning.proofs.Facts.{ConnectionFacts}
 use Rattle.guarantees.proofs.Classes.{bound-most}
 use Rattle.guarantees.proofs.WithoutEnd.{condition-facts, envelope-laws}

@@ -12,10 +12,13 @@ use Rattle.laws.specs.Places.{getD-last}
 use Rattle.meaning.specs.declared.Admitted.{Admitted}
 use Rattle.meaning.specs.declared.Offered.{Offered}
 use Rattle.meaning.specs.declared.Stepped.{Stepped}
-use Rattle.meaning.specs.Numbers.{Settings, Connection, settingsAllowed, connectionAllowed, mostConnections}
-use Rattle.meaning.specs.Envelope.{Allowance, full, conforms, charged}
+use Rattle.meaning.specs.declared.Connection.{Connection}
+use Rattle.meaning.specs.Numbers.{Settings, settingsAllowed, connectionAllowed, mostConnections}
+use Rattle.meaning.specs.declared.Allowance.{Allowance}
+use Rattle.meaning.specs.Envelope.{full, conforms, charged}
 use Rattle.meaning.specs.Admission.{rateHolds, finiteSearch}
-use Rattle.meaning.specs.Box.{Box, Standing, connections, connection, noConnection, stands, sound}
+use Rattle.meaning.specs.declared.Standing.{Standing}
+use Rattle.meaning.specs.Box.{Box, connections, connection, noConnection, stands, sound}
 use Rattle.meaning.specs.Calls.{newBox, withNewcomer, searchAnswer, admissionAnswer, withStanding, afterAdmission, allowance, offerAnswer, afterOffer}
 use Rattle.meaning.specs.Step.{stepAnswer, moved, afterStep}
 use Rattle.meaning.proofs.KeepsSound.{new-box-sound}

@@ -9,10 +9,13 @@ use native.Mathlib.Omega.{arith}
 use Rattle.laws.specs.Tests.{within-facts}
 use Rattle.laws.specs.Sums.{sumOf, largestOf}
 use Rattle.meaning.specs.declared.Admitted.{Admitted}
-use Rattle.meaning.specs.Numbers.{Settings, Connection, settingsAllowed}
+use Rattle.meaning.specs.declared.Connection.{Connection}
+use Rattle.meaning.specs.Numbers.{Settings, settingsAllowed}
 use Rattle.meaning.specs.Envelope.{full}
 use Rattle.meaning.specs.Admission.{HoldsWithoutEnd, sumAt, inTheWay}
-use Rattle.meaning.specs.Box.{Box, Standing, Packet, Link, free, carries, connections, connection, stands, waiting}
+use Rattle.meaning.specs.declared.Standing.{Standing}
+use Rattle.meaning.specs.declared.Packet.{Packet}
+use Rattle.meaning.specs.Box.{Box, Link, free, carries, connections, connection, stands, waiting}
 use Rattle.meaning.specs.Queues.{emptyQueues}
 use Rattle.meaning.specs.Calls.{newBox, withNewcomer, withStanding, admissionAnswer, afterOffer}
 use Rattle.meaning.specs.Step.{linkSent, moved}

@@ -10,7 +10,8 @@ use native.Mathlib.Nat.{div-mul-le-self, lt-div-mul-add, mul-le-mul-right}
 use native.Mathlib.Decide.{decLt}
 use native.Mathlib.Omega.{arith}
 use Rattle.laws.specs.Tests.{or-cases, or-left, or-right}
-use Rattle.meaning.specs.Box.{Box, Packet, rankIn}
+use Rattle.meaning.specs.declared.Packet.{Packet}
+use Rattle.meaning.specs.Box.{Box, rankIn}
 use Rattle.guarantees.proofs.Choosing.{Before}
 use Rattle.guarantees.proofs.Scheduled.{Closed}
 

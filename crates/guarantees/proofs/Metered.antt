@@ -10,9 +10,13 @@ use native.Mathlib.Decide.{decLe, ℕ-discrete}
 use native.Mathlib.Omega.{arith}
 use Rattle.laws.specs.Tests.{within-facts}
 use Rattle.laws.specs.Sums.{sumOf}
-use Rattle.meaning.specs.Numbers.{Settings, Connection}
-use Rattle.meaning.specs.Envelope.{Allowance, mayHave, envelope, countIn, fits, full, conforms, charged}
-use Rattle.meaning.specs.Box.{Box, Standing, Packet, connection, stands}
+use Rattle.meaning.specs.declared.Connection.{Connection}
+use Rattle.meaning.specs.Numbers.{Settings}
+use Rattle.meaning.specs.declared.Allowance.{Allowance}
+use Rattle.meaning.specs.Envelope.{mayHave, envelope, countIn, fits, full, conforms, charged}
+use Rattle.meaning.specs.declared.Standing.{Standing}
+use Rattle.meaning.specs.declared.Packet.{Packet}
+use Rattle.meaning.specs.Box.{Box, connection, stands}
 use Rattle.meaning.specs.Calls.{newBox, withStanding, allowance, afterOffer, chargedAt}
 use Rattle.meaning.specs.Step.{moved}
 use Rattle.meaning.proofs.Facts.{ConnectionFacts}

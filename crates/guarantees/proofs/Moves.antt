@@ -10,9 +10,11 @@ use native.Mathlib.Omega.{arith}
 use Rattle.meaning.specs.declared.Admitted.{Admitted}
 use Rattle.meaning.specs.declared.Offered.{Offered}
 use Rattle.meaning.specs.declared.Stepped.{Stepped}
-use Rattle.meaning.specs.Numbers.{Connection}
+use Rattle.meaning.specs.declared.Connection.{Connection}
 use Rattle.meaning.specs.Envelope.{full}
-use Rattle.meaning.specs.Box.{Box, Standing, Packet, free, carries, connections, connection, noConnection, rankIn}
+use Rattle.meaning.specs.declared.Standing.{Standing}
+use Rattle.meaning.specs.declared.Packet.{Packet}
+use Rattle.meaning.specs.Box.{Box, free, carries, connections, connection, noConnection, rankIn}
 use Rattle.meaning.specs.Calls.{admissionAnswer, withStanding, afterAdmission, offerAnswer, afterOffer, chargedAt}
 use Rattle.meaning.specs.Step.{linkTaken, stepAnswer, moved, afterStep}
 use Rattle.meaning.proofs.Facts.{PacketFacts}

@@ -9,7 +9,8 @@ use native.Mathlib.Omega.{arith}
 use Rattle.laws.specs.Tests.{within-facts}
 use Rattle.meaning.specs.Numbers.{Settings}
 use Rattle.meaning.specs.Envelope.{envelope}
-use Rattle.meaning.specs.Box.{Box, Packet, connection, stands, waiting}
+use Rattle.meaning.specs.declared.Packet.{Packet}
+use Rattle.meaning.specs.Box.{Box, connection, stands, waiting}
 use Rattle.meaning.specs.Queues.{emptyQueues}
 use Rattle.meaning.specs.Calls.{newBox, withStanding, afterOffer}
 use Rattle.meaning.specs.Step.{moved}

@@ -12,7 +12,8 @@ use Rattle.laws.specs.Tests.{within, within-facts, within-test, bool-cases}
 use Rattle.laws.specs.Sums.{sumOf, sum-append}
 use Rattle.laws.specs.SumLaws.{given, given-true, given-false, sum-one}
 use Rattle.meaning.specs.Numbers.{Settings}
-use Rattle.meaning.specs.Box.{Box, Packet, Link, carries, waiting, onLink}
+use Rattle.meaning.specs.declared.Packet.{Packet}
+use Rattle.meaning.specs.Box.{Box, Link, carries, waiting, onLink}
 use Rattle.meaning.specs.Queues.{emptyQueues}
 use Rattle.meaning.specs.Calls.{newBox, withStanding, afterOffer}
 use Rattle.meaning.specs.Step.{linkTaken, queuesTaken, linkSent, moved}

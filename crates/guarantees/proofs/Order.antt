@@ -11,7 +11,8 @@ use native.Mathlib.Omega.{arith}
 use Rattle.laws.specs.Tests.{every, every-at, every-all, or-left, or-right}
 use Rattle.meaning.specs.Numbers.{Settings, factor}
 use Rattle.meaning.specs.Queues.{rank, emptyQueues}
-use Rattle.meaning.specs.Box.{Box, Packet, Link, free, carries, connection, waiting, rankIn}
+use Rattle.meaning.specs.declared.Packet.{Packet}
+use Rattle.meaning.specs.Box.{Box, Link, free, carries, connection, waiting, rankIn}
 use Rattle.meaning.specs.Calls.{newBox, withStanding, afterOffer}
 use Rattle.meaning.specs.Step.{linkTaken, queuesTaken, linkSent, moved}
 use Rattle.guarantees.specs.Runs.{Departure, inOrder, InBox}

@@ -7,7 +7,8 @@ use lib.Seq.{getD-set-same, getD-set-other}
 use native.Mathlib.Omega.{arith}
 use Rattle.laws.specs.Places.{map-set, last-at}
 use Rattle.meaning.specs.Envelope.{full, charged}
-use Rattle.meaning.specs.Box.{Box, Standing, connections, connection, noConnection}
+use Rattle.meaning.specs.declared.Standing.{Standing}
+use Rattle.meaning.specs.Box.{Box, connections, connection, noConnection}
 use Rattle.meaning.specs.Calls.{withStanding, allowance, afterOffer, chargedAt}
 use Rattle.guarantees.proofs.Moves.{accepting}
 

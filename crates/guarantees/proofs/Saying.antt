@@ -9,10 +9,12 @@ use Rattle.laws.specs.Search.{Search, failsAt, holds}
 use Rattle.meaning.specs.declared.Admitted.{Admitted}
 use Rattle.meaning.specs.declared.Offered.{Offered}
 use Rattle.meaning.specs.declared.Stepped.{Stepped}
-use Rattle.meaning.specs.Numbers.{Connection, connectionAllowed, mostConnections, mostWaiting, lastSlot}
+use Rattle.meaning.specs.declared.Connection.{Connection}
+use Rattle.meaning.specs.Numbers.{connectionAllowed, mostConnections, mostWaiting, lastSlot}
 use Rattle.meaning.specs.Envelope.{conforms}
 use Rattle.meaning.specs.Admission.{rateHolds, finiteSearch}
-use Rattle.meaning.specs.Box.{Box, Packet, Link, free, carries, connection, stands, waiting, sound}
+use Rattle.meaning.specs.declared.Packet.{Packet}
+use Rattle.meaning.specs.Box.{Box, Link, free, carries, connection, stands, waiting, sound}
 use Rattle.meaning.specs.Calls.{withNewcomer, searchAnswer, admissionAnswer, allowance, offerAnswer}
 use Rattle.meaning.specs.Step.{linkTaken, queuesTaken, sentAnswer, turnDue, stepAnswer}
 use Rattle.meaning.specs.Queues.{tagZeroWaits}

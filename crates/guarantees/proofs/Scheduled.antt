@@ -8,7 +8,8 @@ use native.Mathlib.Omega.{arith}
 use Rattle.laws.specs.Sums.{sumOf}
 use Rattle.laws.specs.Putting.{Same}
 use Rattle.meaning.specs.Numbers.{Settings}
-use Rattle.meaning.specs.Box.{Box, Packet, Link, waiting, rankIn}
+use Rattle.meaning.specs.declared.Packet.{Packet}
+use Rattle.meaning.specs.Box.{Box, Link, waiting, rankIn}
 use Rattle.meaning.specs.Queues.{emptyQueues}
 use Rattle.meaning.specs.Calls.{newBox, withStanding, afterOffer}
 use Rattle.meaning.specs.Step.{linkSent, moved}

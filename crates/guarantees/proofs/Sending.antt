@@ -11,7 +11,8 @@ use Rattle.laws.specs.Tests.{bool-cases}
 use Rattle.laws.specs.Sums.{sumOf}
 use Rattle.laws.specs.SumLaws.{given, given-true, given-false, sum-zero}
 use Rattle.laws.specs.Putting.{Put, Same}
-use Rattle.meaning.specs.Box.{Packet, free, carries}
+use Rattle.meaning.specs.declared.Packet.{Packet}
+use Rattle.meaning.specs.Box.{free, carries}
 use Rattle.meaning.specs.Step.{linkSent}
 use Rattle.guarantees.proofs.Backlog.{waitingWork, linkWork, linkOther, Backlog}
 

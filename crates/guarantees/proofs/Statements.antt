@@ -14,7 +14,8 @@ use Rattle.laws.specs.SumLaws.{given, given-true, given-false, sum-member, sum-
 use Rattle.meaning.specs.declared.Offered.{Offered}
 use Rattle.meaning.specs.Numbers.{Settings, settingsAllowed, mostWaiting}
 use Rattle.meaning.specs.Envelope.{mayHave, fits, conforms}
-use Rattle.meaning.specs.Box.{Box, Packet, Link, free, carries, connection, stands, waiting, onLink, sound}
+use Rattle.meaning.specs.declared.Packet.{Packet}
+use Rattle.meaning.specs.Box.{Box, Link, free, carries, connection, stands, waiting, onLink, sound}
 use Rattle.meaning.specs.Calls.{newBox, allowance, offerAnswer}
 use Rattle.meaning.proofs.Facts.{sound-facts}
 use Rattle.meaning.proofs.KeepsSound.{new-box-sound}

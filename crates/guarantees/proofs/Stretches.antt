@@ -10,9 +10,9 @@ use Rattle.laws.specs.Tests.{within, within-facts, within-test, everyBelow-at}
 use Rattle.laws.specs.Sums.{sumOf, sum-append}
 use Rattle.laws.specs.SumLaws.{given}
 use Rattle.laws.specs.Division.{div-mono}
-use Rattle.meaning.specs.Numbers.{Connection}
+use Rattle.meaning.specs.declared.Connection.{Connection}
 use Rattle.meaning.specs.Envelope.{mayHave, countIn, fits}
-use Rattle.meaning.specs.Box.{Packet}
+use Rattle.meaning.specs.declared.Packet.{Packet}
 use Rattle.meaning.proofs.RecordFits.{Descending}
 use Rattle.guarantees.specs.Runs.{slotsOf, WithinEnvelope}
 use Rattle.guarantees.proofs.Ahead.{unitsIn}

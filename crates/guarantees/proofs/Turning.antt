@@ -13,7 +13,8 @@ use Rattle.laws.specs.Turns.{turn-due}
 use Rattle.meaning.specs.declared.Stepped.{Stepped}
 use Rattle.meaning.specs.Numbers.{Settings, bound, settingsAllowed, lastSlot}
 use Rattle.meaning.specs.Queues.{turnAt, rank, withoutLowestHead, tagZeroWaits}
-use Rattle.meaning.specs.Box.{Box, Packet, Link, free, carries, connection, waiting, rankIn, inTheirQueues}
+use Rattle.meaning.specs.declared.Packet.{Packet}
+use Rattle.meaning.specs.Box.{Box, Link, free, carries, connection, waiting, rankIn, inTheirQueues}
 use Rattle.meaning.specs.Step.{queuesTaken, turnDue, stepAnswer, moved, afterStep}
 use Rattle.meaning.proofs.Facts.{SettingsFacts, settings-facts, sound-facts}
 use Rattle.guarantees.specs.Runs.{Call, dueBy, boxOf}

@@ -8,7 +8,8 @@ use mathlib.Core.Logic.{⊎-elim}
 use native.Mathlib.Omega.{arith}
 use Rattle.laws.specs.Tests.{within-facts, every-at}
 use Rattle.laws.specs.Sums.{sumOf}
-use Rattle.meaning.specs.Box.{Box, Packet, Link, free, carries, waiting, onLink, packets, packetKept, linkKept, sound}
+use Rattle.meaning.specs.declared.Packet.{Packet}
+use Rattle.meaning.specs.Box.{Box, Link, free, carries, waiting, onLink, packets, packetKept, linkKept, sound}
 use Rattle.meaning.specs.Step.{linkTaken, queuesTaken, linkSent, moved}
 use Rattle.meaning.proofs.Facts.{sound-facts, packet-facts}
 use Rattle.guarantees.proofs.Sending.{sent-cases}

@@ -12,7 +12,8 @@ use native.Mathlib.Omega.{arith}
 use Rattle.laws.specs.Tests.{bool-cases}
 use Rattle.laws.specs.SumLaws.{sum-put, largest-put}
 use Rattle.laws.specs.Division.{div-mono, div-add-multiple}
-use Rattle.meaning.specs.Numbers.{Settings, Connection, bound, largestBound}
+use Rattle.meaning.specs.declared.Connection.{Connection}
+use Rattle.meaning.specs.Numbers.{Settings, bound, largestBound}
 use Rattle.meaning.specs.Envelope.{mayHave, envelope, IsEnvelope}
 use Rattle.meaning.specs.Admission.{term, sumAt, inTheWay, eleven, twelveRange, twelve, conditionAt, HoldsWithoutEnd, rate, rateHolds}
 use Rattle.meaning.proofs.Facts.{ConnectionFacts, SettingsFacts}

@@ -5,7 +5,7 @@ use mathlib.Core.List.{List, [], _∷_, _++_}
 use lib.Dec.{eqb}
 use Rattle.laws.specs.Tests.{every}
 use Rattle.meaning.specs.declared.Offered.{Offered}
-use Rattle.meaning.specs.Numbers.{Connection}
+use Rattle.meaning.specs.declared.Connection.{Connection}
 use Rattle.guarantees.specs.Runs.{Call, admit, offer, step, Reply, toAdmission, toOffer, toStep, Event}
 
 -- An admission at a slot, or an offer of the one connection at a slot, with its length.

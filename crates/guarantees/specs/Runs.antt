@@ -12,9 +12,11 @@ use Rattle.meaning.specs.declared.Offered.{Offered}
 use Rattle.meaning.specs.declared.Stepped.{Stepped}
 use Rattle.laws.specs.Sums.{sumOf}
 use Rattle.laws.specs.SumLaws.{given}
-use Rattle.meaning.specs.Numbers.{Settings, Connection, bound}
+use Rattle.meaning.specs.declared.Connection.{Connection}
+use Rattle.meaning.specs.Numbers.{Settings, bound}
 use Rattle.meaning.specs.Envelope.{mayHave, countIn}
-use Rattle.meaning.specs.Box.{Box, Packet, carries, connection, waiting}
+use Rattle.meaning.specs.declared.Packet.{Packet}
+use Rattle.meaning.specs.Box.{Box, carries, connection, waiting}
 use Rattle.meaning.specs.Calls.{newBox, admissionAnswer, afterAdmission, offerAnswer, afterOffer}
 use Rattle.meaning.specs.Step.{stepAnswer, afterStep}
 

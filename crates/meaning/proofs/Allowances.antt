@@ -9,8 +9,9 @@ use native.Mathlib.Omega.{arith}
 use lib.Dec.{leb, ltb, eqb}
 use borrow.Author.Tests.{leb-true, leb-false, le-leb, lt-leb, eqb-true, eq-eqb, ne-eqb, ltb-true, lt-ltb}
 use Rattle.laws.specs.Tests.{within, within-facts, within-test, or-cases, or-left, or-right, bool-cases}
-use Rattle.meaning.specs.Numbers.{Connection}
-use Rattle.meaning.specs.Envelope.{Allowance, full, cameBack, refilled, conforms, charged, allowanceKept}
+use Rattle.meaning.specs.declared.Connection.{Connection}
+use Rattle.meaning.specs.declared.Allowance.{Allowance}
+use Rattle.meaning.specs.Envelope.{full, cameBack, refilled, conforms, charged, allowanceKept}
 
 -- A record with all its credits, as it is kept when fresh.
 pub record Fresh (c : Connection) (a : Allowance) (v : ℕ) : Type 0 where

@@ -10,7 +10,7 @@ use borrow.Author.Tests.{leb-true, leb-false, le-leb, lt-leb, eqb-true, eqb-fals
 use Rattle.laws.specs.Tests.{bool-cases}
 use Rattle.laws.specs.Lists.{Placed, keep}
 use Rattle.laws.specs.Sums.{sumOf, sum-add}
-use Rattle.meaning.specs.Plan.{Arrival}
+use Rattle.meaning.specs.declared.Arrival.{Arrival}
 
 module _ (size : Placed Arrival → ℕ) where
   -- The arrivals from a slot on, and those of that slot.

@@ -8,7 +8,8 @@ use mathlib.Core.List.{List, [], _∷_, List·Memᴰ}
 use lib.ListN.{getD}
 use lib.Dec.{eqb}
 use Rattle.laws.specs.Tests.{every, every-at}
-use Rattle.meaning.specs.Numbers.{Settings, Connection}
+use Rattle.meaning.specs.declared.Connection.{Connection}
+use Rattle.meaning.specs.Numbers.{Settings}
 use Rattle.meaning.specs.Envelope.{mayHave, fits}
 use Rattle.meaning.specs.Admission.{sumAt}
 use Rattle.meaning.specs.Box.{Box, connections}

@@ -6,8 +6,10 @@ use lib.ListN.{length}
 use lib.Dec.{leb, eqb}
 use borrow.Author.Tests.{leb-true, le-leb, eqb-true, eq-eqb}
 use Rattle.laws.specs.Tests.{within, every, within-facts, within-test}
-use Rattle.meaning.specs.Numbers.{Settings, Connection, classCount, largestFactor, largestBound, risingAbove, intervalAllowed, cycleAllowed, classesAllowed, largestBoundAllowed, settingsAllowed, classAllowed, longestAllowed, burstAllowed, periodAllowed, connectionAllowed, mostConnections, mostWaiting, lastSlot}
-use Rattle.meaning.specs.Box.{Box, Packet, connections, connection, waiting, packets, stands, numbersKept, inTheirQueues, queuesKept, serialsRise, packetKept, linkKept, countKept, allowancesKept, sound}
+use Rattle.meaning.specs.declared.Connection.{Connection}
+use Rattle.meaning.specs.Numbers.{Settings, classCount, largestFactor, largestBound, risingAbove, intervalAllowed, cycleAllowed, classesAllowed, largestBoundAllowed, settingsAllowed, classAllowed, longestAllowed, burstAllowed, periodAllowed, connectionAllowed, mostConnections, mostWaiting, lastSlot}
+use Rattle.meaning.specs.declared.Packet.{Packet}
+use Rattle.meaning.specs.Box.{Box, connections, connection, waiting, packets, stands, numbersKept, inTheirQueues, queuesKept, serialsRise, packetKept, linkKept, countKept, allowancesKept, sound}
 
 -- The rows of the table for a box.
 pub record SettingsFacts (box : Settings) : Type 0 where

@@ -9,11 +9,14 @@ use lib.Dec.{leb, eqb}
 use borrow.Author.Tests.{leb-false}
 use Rattle.laws.specs.Tests.{every, every-at, every-all, every-append}
 use Rattle.laws.specs.Search.{Search, failsAt, holds}
-use Rattle.meaning.specs.Numbers.{Settings, Connection, settingsAllowed, connectionAllowed, largestFactor, risingAbove, mostConnections, factor}
+use Rattle.meaning.specs.declared.Connection.{Connection}
+use Rattle.meaning.specs.Numbers.{Settings, settingsAllowed, connectionAllowed, largestFactor, risingAbove, mostConnections, factor}
 use Rattle.meaning.specs.Envelope.{full, allowanceKept}
 use Rattle.meaning.specs.Admission.{rateHolds, finiteSearch}
 use Rattle.meaning.specs.Queues.{emptyQueues, rank}
-use Rattle.meaning.specs.Box.{Box, Packet, Standing, connections, connection, noConnection, waiting, onLink, packets, rankIn, inTheirQueues, serialsRise, packetKept, linkKept, allowancesKept, sound}
+use Rattle.meaning.specs.declared.Packet.{Packet}
+use Rattle.meaning.specs.declared.Standing.{Standing}
+use Rattle.meaning.specs.Box.{Box, connections, connection, noConnection, waiting, onLink, packets, rankIn, inTheirQueues, serialsRise, packetKept, linkKept, allowancesKept, sound}
 use Rattle.meaning.specs.declared.Admitted.{Admitted}
 use Rattle.meaning.specs.Calls.{newBox, withNewcomer, searchAnswer, admissionAnswer, withStanding, afterAdmission}
 use Rattle.meaning.proofs.Facts.{SoundFacts, PacketFacts, sound-facts, sound-test, packet-facts, packet-test}

@@ -11,10 +11,13 @@ use lib.Dec.{leb, ltb, eqb}
 use borrow.Author.Tests.{leb-false, lt-ltb, eq-eqb, ltb-true}
 use Rattle.laws.specs.Tests.{within, within-facts, every, every-at, every-all, every-set}
 use Rattle.laws.specs.Lists.{getD-member, member-flatten}
-use Rattle.meaning.specs.Numbers.{Settings, Connection, classCount, factor, largestFactor, settingsAllowed, connectionAllowed, risingAbove, mostWaiting}
+use Rattle.meaning.specs.declared.Connection.{Connection}
+use Rattle.meaning.specs.Numbers.{Settings, classCount, factor, largestFactor, settingsAllowed, connectionAllowed, risingAbove, mostWaiting}
 use Rattle.meaning.specs.Envelope.{full, conforms, charged, allowanceKept}
 use Rattle.meaning.specs.Queues.{rank, joinTail}
-use Rattle.meaning.specs.Box.{Box, Packet, Standing, connections, connection, noConnection, stands, waiting, onLink, packets, rankIn, inTheirQueues, serialsRise, packetKept, allowancesKept, sound}
+use Rattle.meaning.specs.declared.Packet.{Packet}
+use Rattle.meaning.specs.declared.Standing.{Standing}
+use Rattle.meaning.specs.Box.{Box, connections, connection, noConnection, stands, waiting, onLink, packets, rankIn, inTheirQueues, serialsRise, packetKept, allowancesKept, sound}
 use Rattle.meaning.specs.declared.Offered.{Offered}
 use Rattle.meaning.specs.Calls.{allowance, chargedAt, joined, offerAnswer, afterOffer}
 use Rattle.meaning.proofs.Facts.{SoundFacts, SettingsFacts, ConnectionFacts, PacketFacts, sound-facts, sound-test, settings-facts, connection-facts, packet-facts, packet-test}

@@ -11,10 +11,13 @@ use lib.Dec.{leb, ltb, eqb}
 use borrow.Author.Tests.{leb-true, leb-false, eqb-true, eqb-false}
 use Rattle.laws.specs.Tests.{within, within-facts, within-test, every, every-at, every-all, every-append, bool-cases}
 use Rattle.laws.specs.Turns.{turn-due, turn-not-due}
-use Rattle.meaning.specs.Numbers.{Settings, Connection, risingAbove, lastSlot}
+use Rattle.meaning.specs.declared.Connection.{Connection}
+use Rattle.meaning.specs.Numbers.{Settings, risingAbove, lastSlot}
 use Rattle.meaning.specs.Envelope.{allowanceKept}
 use Rattle.meaning.specs.Queues.{turnAt, turned, lowestHead, withoutLowestHead, tagZeroWaits}
-use Rattle.meaning.specs.Box.{Box, Packet, Standing, Link, free, carries, connections, connection, waiting, onLink, packets, rankIn, inTheirQueues, serialsRise, packetKept, linkKept, allowancesKept, sound}
+use Rattle.meaning.specs.declared.Packet.{Packet}
+use Rattle.meaning.specs.declared.Standing.{Standing}
+use Rattle.meaning.specs.Box.{Box, Link, free, carries, connections, connection, waiting, onLink, packets, rankIn, inTheirQueues, serialsRise, packetKept, linkKept, allowancesKept, sound}
 use Rattle.meaning.specs.declared.Stepped.{Stepped}
 use Rattle.meaning.specs.Step.{loaded, linkTaken, queuesTaken, sentAnswer, linkSent, turnDue, stepAnswer, queuesStepped, moved, afterStep}
 use Rattle.meaning.proofs.Facts.{SoundFacts, PacketFacts, sound-facts, sound-test, settings-facts, packet-facts, packet-test}

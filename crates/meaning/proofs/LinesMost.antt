@@ -13,7 +13,7 @@ use Rattle.meaning.specs.declared.Stepped.{Stepped}
 use Rattle.meaning.specs.Box.{Box, packets, sound}
 use Rattle.meaning.specs.Answers.{refusal, stepped}
 use Rattle.meaning.specs.Step.{linkTaken, sentAnswer, stepAnswer, moved, afterStep}
-use Rattle.meaning.specs.Plan.{Arrival}
+use Rattle.meaning.specs.declared.Arrival.{Arrival}
 use Rattle.meaning.specs.Run.{Line, going, ended, stopped, endLine, stopLine, offerAll, departures, finished, phase, slots}
 use Rattle.meaning.proofs.ArrivalSums.{from, next-slot}
 use Rattle.meaning.proofs.Facts.{sound-facts}

@@ -13,10 +13,11 @@ use Rattle.meaning.specs.declared.Offered.{Offered}
 use Rattle.meaning.specs.Numbers.{factor}
 use Rattle.meaning.specs.Envelope.{conforms}
 use Rattle.meaning.specs.Queues.{joinTail}
-use Rattle.meaning.specs.Box.{Box, Packet, Link, free, carries, connection, stands, waiting, onLink, packets, sound}
+use Rattle.meaning.specs.declared.Packet.{Packet}
+use Rattle.meaning.specs.Box.{Box, Link, free, carries, connection, stands, waiting, onLink, packets, sound}
 use Rattle.meaning.specs.Answers.{refusal, offered}
 use Rattle.meaning.specs.Calls.{allowance, offerAnswer, afterOffer, joined}
-use Rattle.meaning.specs.Plan.{Arrival}
+use Rattle.meaning.specs.declared.Arrival.{Arrival}
 use Rattle.meaning.specs.Run.{Line, offerLine, numberOf, offerAll}
 use Rattle.meaning.proofs.Facts.{sound-facts}
 use Rattle.meaning.proofs.KeptByOffer.{offer-keeps-sound}

@@ -13,8 +13,9 @@ use borrow.Author.Tests.{leb-true, leb-false, le-leb, lt-leb}
 use Rattle.laws.specs.Tests.{within, within-test, within-below, same-test, everyBelow, everyBelow-at, everyBelow-all, bool-cases}
 use Rattle.laws.specs.Quotients.{within-quotient, quotient-within}
 use Rattle.laws.specs.Sums.{sumOf}
-use Rattle.meaning.specs.Numbers.{Connection}
-use Rattle.meaning.specs.Envelope.{Allowance, mayHave, countIn, fits, full, conforms, charged}
+use Rattle.meaning.specs.declared.Connection.{Connection}
+use Rattle.meaning.specs.declared.Allowance.{Allowance}
+use Rattle.meaning.specs.Envelope.{mayHave, countIn, fits, full, conforms, charged}
 use Rattle.meaning.proofs.Allowances.{Means, full-means, means-later, conforms-exactly, charged-means}
 
 -- The slots of accepted packets, the last accepted first, none after `at`.

@@ -12,7 +12,8 @@ use Rattle.meaning.specs.Box.{Box}
 use Rattle.meaning.specs.Answers.{refusal, stepped}
 use Rattle.meaning.specs.Calls.{newBox}
 use Rattle.meaning.specs.Step.{stepAnswer, moved, afterStep}
-use Rattle.meaning.specs.Plan.{Plan, Arrival}
+use Rattle.meaning.specs.declared.Arrival.{Arrival}
+use Rattle.meaning.specs.Plan.{Plan}
 use Rattle.meaning.specs.Run.{Line, Phase, going, ended, stopped, endLine, stopLine, admitAll, offerAll, departures, finished, phase, slots, slotsEnough, openRun}
 use Rattle.meaning.proofs.SlotsEnough.{potential, falls, enough, start-potential, new-weight, admissions-weight}
 

@@ -16,13 +16,16 @@ use Rattle.meaning.specs.declared.Header.{Header}
 use Rattle.meaning.specs.declared.Opened.{Opened}
 use Rattle.meaning.specs.declared.Admitted.{Admitted}
 use Rattle.meaning.specs.declared.PlanRead.{PlanRead}
-use Rattle.meaning.specs.Numbers.{Settings, Connection, largestFactor, largestBound, settingsAllowed, connectionAllowed}
+use Rattle.meaning.specs.declared.Connection.{Connection}
+use Rattle.meaning.specs.Numbers.{Settings, largestFactor, largestBound, settingsAllowed, connectionAllowed}
 use Rattle.meaning.specs.Admission.{conditionAt, rateHolds, finiteSearch}
 use Rattle.meaning.specs.Queues.{emptyQueues}
-use Rattle.meaning.specs.Box.{Box, Packet, onLink, waiting, packets, sound}
+use Rattle.meaning.specs.declared.Packet.{Packet}
+use Rattle.meaning.specs.Box.{Box, onLink, waiting, packets, sound}
 use Rattle.meaning.specs.Answers.{refusal, opened, admitted, planRead}
 use Rattle.meaning.specs.Calls.{newBox, openingAnswer, withNewcomer, searchAnswer, admissionAnswer, withStanding, afterAdmission}
-use Rattle.meaning.specs.Plan.{Plan, Arrival, wordsOf, headerOf, contentsOf, table, countsAllowed, layoutWrong, slotsWrong, sizeWrong, sumWrong, readingAnswer, connectionAt, arrivalAt}
+use Rattle.meaning.specs.declared.Arrival.{Arrival}
+use Rattle.meaning.specs.Plan.{Plan, wordsOf, headerOf, contentsOf, table, countsAllowed, layoutWrong, slotsWrong, sizeWrong, sumWrong, readingAnswer, connectionAt, arrivalAt}
 use Rattle.meaning.specs.Run.{Line, admitLine, refusedLine, lineOfAdmission, admitAll, phase, slots, slotsEnough, openRun, planRun, readRun, run}
 use Rattle.meaning.specs.Lines.{runText, textMost}
 use Rattle.meaning.proofs.Facts.{sound-facts, settings-facts}

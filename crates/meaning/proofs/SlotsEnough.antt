@@ -15,13 +15,16 @@ use Rattle.laws.specs.Sums.{sumOf, largestOf, sum-append, length-sum, sum-add}
 use Rattle.meaning.specs.declared.Admitted.{Admitted}
 use Rattle.meaning.specs.declared.Offered.{Offered}
 use Rattle.meaning.specs.declared.Stepped.{Stepped}
-use Rattle.meaning.specs.Numbers.{Settings, Connection, factor, largestFactor}
+use Rattle.meaning.specs.declared.Connection.{Connection}
+use Rattle.meaning.specs.Numbers.{Settings, factor, largestFactor}
 use Rattle.meaning.specs.Queues.{emptyQueues, joinTail, turned, lowestHead, withoutLowestHead}
-use Rattle.meaning.specs.Box.{Box, Packet, Link, free, carries, connection, waiting, onLink, packets}
+use Rattle.meaning.specs.declared.Packet.{Packet}
+use Rattle.meaning.specs.Box.{Box, Link, free, carries, connection, waiting, onLink, packets}
 use Rattle.meaning.specs.Answers.{refusal, stepped}
 use Rattle.meaning.specs.Calls.{newBox, withStanding, admissionAnswer, afterAdmission, joined, offerAnswer, afterOffer}
 use Rattle.meaning.specs.Step.{loaded, linkTaken, queuesTaken, linkSent, turnDue, stepAnswer, queuesStepped, moved, afterStep}
-use Rattle.meaning.specs.Plan.{Plan, Arrival}
+use Rattle.meaning.specs.declared.Arrival.{Arrival}
+use Rattle.meaning.specs.Plan.{Plan}
 use Rattle.meaning.specs.Run.{Line, AfterOffers, Phase, going, ended, stopped, admitAll, numberOf, offerAll, departures, finished, phase, slots, slotsEnough}
 use Rattle.meaning.proofs.ArrivalSums.{from, next-slot, from-start}
 use Rattle.meaning.proofs.QueueLaws.{nothing-waits, nothing-taken, flatten-last, empty-flatten}

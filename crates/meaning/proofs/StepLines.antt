@@ -11,7 +11,8 @@ use Rattle.laws.specs.Tests.{every-at}
 use Rattle.meaning.specs.declared.Stepped.{Stepped}
 use Rattle.meaning.specs.Numbers.{lastSlot}
 use Rattle.meaning.specs.Queues.{turned, lowestHead, withoutLowestHead, tagZeroWaits}
-use Rattle.meaning.specs.Box.{Box, Packet, Link, free, carries, connection, waiting, onLink, packets, packetKept, sound}
+use Rattle.meaning.specs.declared.Packet.{Packet}
+use Rattle.meaning.specs.Box.{Box, Link, free, carries, connection, waiting, onLink, packets, packetKept, sound}
 use Rattle.meaning.specs.Answers.{stepped}
 use Rattle.meaning.specs.Step.{loaded, linkTaken, queuesTaken, sentAnswer, linkSent, turnDue, stepAnswer, queuesStepped, moved}
 use Rattle.meaning.specs.Run.{departLine, placeOf, departures}

@@ -6,7 +6,8 @@ use mathlib.Core.List.{List}
 use lib.Dec.{leb, ltb, eqb}
 use Rattle.laws.specs.Search.{Search, firstFailing}
 use Rattle.laws.specs.Sums.{sumOf, largestOf}
-use Rattle.meaning.specs.Numbers.{Settings, Connection, bound, largestBound}
+use Rattle.meaning.specs.declared.Connection.{Connection}
+use Rattle.meaning.specs.Numbers.{Settings, bound, largestBound}
 use Rattle.meaning.specs.Envelope.{envelope, delayed}
 
 -- What one connection adds to the sum at t: "E(t - d1) over class 1 and .. E(t + D - dq) over each class q above 1".

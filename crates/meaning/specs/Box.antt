@@ -5,26 +5,18 @@ use mathlib.Core.List.{List, [], _∷_, _++_, map, flatten}
 use lib.ListN.{length, getD}
 use lib.Dec.{leb, eqb}
 use Rattle.laws.specs.Tests.{within, every}
-use Rattle.meaning.specs.Numbers.{Settings, Connection, largestFactor, settingsAllowed, connectionAllowed, risingAbove, mostConnections, mostWaiting, lastSlot}
-use Rattle.meaning.specs.Envelope.{Allowance, allowanceKept}
+use Rattle.meaning.specs.declared.Connection.{Connection}
+use Rattle.meaning.specs.declared.Packet.{Packet}
+use Rattle.meaning.specs.declared.Standing.{Standing}
+use Rattle.meaning.specs.Numbers.{Settings, largestFactor, settingsAllowed, connectionAllowed, risingAbove, mostConnections, mostWaiting, lastSlot}
+use Rattle.meaning.specs.declared.Allowance.{Allowance}
+use Rattle.meaning.specs.Envelope.{allowanceKept}
 use Rattle.meaning.specs.Queues.{rank}
-
--- An accepted packet: its serial, the number of its connection, its length in units and the slot of its arrival.
-pub record Packet : Type 0 where
-  pub serial : ℕ
-  pub connection : ℕ
-  pub units : ℕ
-  pub arrival : ℕ
 
 -- The link is free, or carries a packet with so many units left to send.
 pub data Link : Type 0 where
   free : Link
   carries : Packet → ℕ → Link
-
--- A connection that stands, with its allowance.
-pub record Standing : Type 0 where
-  pub asked : Connection
-  pub allowance : Allowance
 
 -- "The box holds classes, connections, an allowance per connection, waiting packets, the packet on the link and the slot counter",
 -- and the count of accepted packets. The queue tagged k stands at place k.

@@ -10,11 +10,15 @@ use Rattle.laws.specs.Search.{Search, failsAt, holds}
 use Rattle.meaning.specs.declared.Opened.{Opened}
 use Rattle.meaning.specs.declared.Admitted.{Admitted}
 use Rattle.meaning.specs.declared.Offered.{Offered}
-use Rattle.meaning.specs.Numbers.{Settings, Connection, factor, settingsAllowed, connectionAllowed, mostConnections, mostWaiting}
-use Rattle.meaning.specs.Envelope.{Allowance, full, conforms, charged}
+use Rattle.meaning.specs.declared.Connection.{Connection}
+use Rattle.meaning.specs.Numbers.{Settings, factor, settingsAllowed, connectionAllowed, mostConnections, mostWaiting}
+use Rattle.meaning.specs.declared.Allowance.{Allowance}
+use Rattle.meaning.specs.Envelope.{full, conforms, charged}
 use Rattle.meaning.specs.Admission.{rateHolds, finiteSearch}
 use Rattle.meaning.specs.Queues.{emptyQueues, joinTail}
-use Rattle.meaning.specs.Box.{Box, Standing, Packet, Link, free, connections, connection, noConnection, stands, waiting, sound}
+use Rattle.meaning.specs.declared.Standing.{Standing}
+use Rattle.meaning.specs.declared.Packet.{Packet}
+use Rattle.meaning.specs.Box.{Box, Link, free, connections, connection, noConnection, stands, waiting, sound}
 
 -- A new box: no connection stands, nothing waits, the link is free and the counter is 0.
 unfoldable pub newBox : Settings → Box

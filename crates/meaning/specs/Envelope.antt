@@ -6,7 +6,8 @@ use mathlib.Core.List.{List, _∷_}
 use lib.Dec.{leb, ltb, eqb}
 use Rattle.laws.specs.Tests.{within, everyBelow}
 use Rattle.laws.specs.Sums.{sumOf}
-use Rattle.meaning.specs.Numbers.{Connection}
+use Rattle.meaning.specs.declared.Connection.{Connection}
+use Rattle.meaning.specs.declared.Allowance.{Allowance}
 
 -- "Over a closed stretch from slot x to slot x+t a connection may have b + floor(t/T) accepted packets, whatever their lengths."
 unfoldable pub mayHave : Connection → ℕ → ℕ
@@ -35,12 +36,6 @@ countIn slots x y = sumOf (λ a. cond (within x a y) 1 0) slots
 -- has more than it may. Only accepted packets count." `may t` is what a stretch from x to x+t may have.
 unfoldable pub fits : (ℕ → ℕ) → List ℕ → ℕ → Bool
 fits may slots at = everyBelow (λ x. leb (countIn (at ∷ slots) x at) (may (at - x))) (suc at)
-
--- "The allowance record of a connection": its burst credit, and the slot at which the next credit comes back, which is the next
--- conforming slot where none is left.
-pub record Allowance : Type 0 where
-  pub next : ℕ
-  pub credit : ℕ
 
 -- The allowance with all b credits; it is kept in this one form.
 unfoldable pub full : Connection → Allowance

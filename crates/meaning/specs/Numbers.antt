@@ -5,19 +5,13 @@ use mathlib.Core.List.{List, [], _∷_}
 use lib.ListN.{length, getD}
 use lib.Dec.{leb, ltb, eqb}
 use Rattle.laws.specs.Tests.{within}
+use Rattle.meaning.specs.declared.Connection.{Connection}
 
 -- What a box is opened with: the rotation interval D, the cycle M and the factors r1 to rP of its classes.
 pub record Settings : Type 0 where
   pub interval : ℕ
   pub cycle : ℕ
   pub factors : List ℕ
-
--- What a connection asks for: the number of its class, its longest packet s, its burst b and its period T.
-pub record Connection : Type 0 where
-  pub class : ℕ
-  pub longest : ℕ
-  pub burst : ℕ
-  pub period : ℕ
 
 -- P, the number of classes.
 unfoldable pub classCount : Settings → ℕ

@@ -10,13 +10,9 @@ use Rattle.laws.specs.Sums.{sumOf}
 use Rattle.meaning.specs.declared.Header.{Header}
 use Rattle.meaning.specs.declared.PlanRead.{PlanRead}
 use Rattle.meaning.specs.declared.PlanWritten.{PlanWritten}
-use Rattle.meaning.specs.Numbers.{Settings, Connection}
-
--- "slot, connection, length per arrival"; the connection is named by its place in the file.
-pub record Arrival : Type 0 where
-  pub slot : ℕ
-  pub place : ℕ
-  pub units : ℕ
+use Rattle.meaning.specs.declared.Connection.{Connection}
+use Rattle.meaning.specs.declared.Arrival.{Arrival}
+use Rattle.meaning.specs.Numbers.{Settings}
 
 -- The contents of a plan: D, M and the factors, the connections and the arrivals.
 pub record Plan : Type 0 where

@@ -12,12 +12,13 @@ use Rattle.meaning.specs.declared.Admitted.{Admitted}
 use Rattle.meaning.specs.declared.Offered.{Offered}
 use Rattle.meaning.specs.declared.Stepped.{Stepped}
 use Rattle.meaning.specs.declared.PlanRead.{PlanRead}
-use Rattle.meaning.specs.Numbers.{Connection}
+use Rattle.meaning.specs.declared.Connection.{Connection}
 use Rattle.meaning.specs.Box.{Box, packets}
 use Rattle.meaning.specs.Answers.{opened, admitted, offered, stepped, planRead}
 use Rattle.meaning.specs.Calls.{newBox, openingAnswer, admissionAnswer, afterAdmission, offerAnswer, afterOffer}
 use Rattle.meaning.specs.Step.{stepAnswer, afterStep}
-use Rattle.meaning.specs.Plan.{Plan, Arrival, wordsOf, headerOf, contentsOf, readingAnswer}
+use Rattle.meaning.specs.declared.Arrival.{Arrival}
+use Rattle.meaning.specs.Plan.{Plan, wordsOf, headerOf, contentsOf, readingAnswer}
 
 -- "`ADMIT` place, answer, t. `OFFER` arrival place, answer, serial or 0. `DEPART` serial, connection's place, arrival, departure.
 -- `END` counter, accepted, departed." "`REFUSED` and the number"; "`STOP` and the number".

@@ -7,7 +7,8 @@ use lib.Dec.{leb}
 use Rattle.meaning.specs.declared.Stepped.{Stepped}
 use Rattle.meaning.specs.Numbers.{lastSlot}
 use Rattle.meaning.specs.Queues.{turnAt, turned, lowestHead, withoutLowestHead, tagZeroWaits}
-use Rattle.meaning.specs.Box.{Box, Packet, Link, free, carries, sound}
+use Rattle.meaning.specs.declared.Packet.{Packet}
+use Rattle.meaning.specs.Box.{Box, Link, free, carries, sound}
 
 -- A packet that is taken has all its units to send; where there was none the link stays free.
 unfoldable pub loaded : Option Packet → Link

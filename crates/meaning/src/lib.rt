@@ -1,4 +1,42 @@
-// The answers of the calls, each declared once. Document 01's number and values for every case are in specs/Answers.antt.
+// What the code and the definitions both speak of, each declared once: the things that document 01 names, and the answers of the calls.
+
+// What a connection asks for: the number of its class, its longest packet s, its burst b and its period T.
+pub struct Connection {
+    pub class: u32,
+    pub longest: u32,
+    pub burst: u32,
+    pub period: u32,
+}
+
+// "The allowance record of a connection": the slot at which the next credit comes back, which is the next conforming slot where none is
+// left, and the burst credit.
+pub struct Allowance {
+    pub next: u32,
+    pub credit: u32,
+}
+
+// A connection that stands, with its allowance.
+pub struct Standing {
+    pub asked: Connection,
+    pub allowance: Allowance,
+}
+
+// An accepted packet: its serial, the number of its connection, its length in units and the slot of its arrival.
+pub struct Packet {
+    pub serial: u32,
+    pub connection: u32,
+    pub units: u32,
+    pub arrival: u32,
+}
+
+// "slot, connection, length per arrival"; the connection is named by its place in the file.
+pub struct Arrival {
+    pub slot: u32,
+    pub place: u32,
+    pub units: u32,
+}
+
+// The answers of the calls. Document 01's number and values for every case are in specs/Answers.antt.
 
 // Opening a box.
 pub enum Opened {

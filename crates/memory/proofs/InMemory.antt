@@ -12,9 +12,11 @@ use Rattle.meaning.specs.declared.Opened.{Opened}
 use Rattle.meaning.specs.declared.Admitted.{Admitted}
 use Rattle.meaning.specs.declared.Offered.{Offered}
 use Rattle.meaning.specs.declared.Stepped.{Stepped}
-use Rattle.meaning.specs.Numbers.{Settings, Connection, connectionAllowed, mostConnections, mostWaiting, lastSlot}
+use Rattle.meaning.specs.declared.Connection.{Connection}
+use Rattle.meaning.specs.Numbers.{Settings, connectionAllowed, mostConnections, mostWaiting, lastSlot}
 use Rattle.meaning.specs.Envelope.{mayHave, fits}
-use Rattle.meaning.specs.Box.{Packet, connection, stands, waiting, onLink}
+use Rattle.meaning.specs.declared.Packet.{Packet}
+use Rattle.meaning.specs.Box.{connection, stands, waiting, onLink}
 use Rattle.meaning.specs.Admission.{HoldsWithoutEnd, conditionAt}
 use Rattle.meaning.specs.Calls.{newBox, withNewcomer, admissionAnswer, offerAnswer}
 use Rattle.meaning.specs.Step.{stepAnswer, afterStep}

@@ -12,35 +12,36 @@ use Rattle.laws.specs.Lists.{getD-member}
 use Rattle.laws.specs.Search.{Search, failsAt, holds}
 use Rattle.laws.specs.Series.{length-series, getD-series}
 use Rattle.meaning.specs.declared.Admitted.{Admitted}
-use Rattle.meaning.specs.Numbers.{Settings, Connection, classCount, classAllowed, longestAllowed, burstAllowed, periodAllowed, connectionAllowed, mostConnections}
+use Rattle.meaning.specs.declared.Connection.{Connection}
+use Rattle.meaning.specs.Numbers.{Settings, classCount, classAllowed, longestAllowed, burstAllowed, periodAllowed, connectionAllowed, mostConnections}
 use Rattle.meaning.specs.Envelope.{full}
 use Rattle.meaning.specs.Admission.{rate, rateHolds, finiteSearch}
-use Rattle.meaning.specs.Box.{Box, Standing, connections, noConnection, waiting, sound}
+use Rattle.meaning.specs.declared.Standing.{Standing}
+use Rattle.meaning.specs.Box.{Box, connections, noConnection, waiting, sound}
 use Rattle.meaning.specs.Calls.{withNewcomer, searchAnswer, withStanding, admissionAnswer, afterAdmission}
 use Rattle.meaning.proofs.KeptByAdmission.{admission-keeps-sound}
-use Rattle.words.specs.declared.parts.Row.{Row}
-use Rattle.words.specs.Places.{word}
+use Rattle.meaning.specs.declared.Standing.{Standing}
+use Rattle.words.specs.Places.{word, cycleAt, classesAt, rowCountAt, rowsAt}
 use Rattle.words.specs.Contents.{contents, settingsAt, standingAt, standings}
 use Rattle.words.specs.Sound.{soundWords}
 use Rattle.words.specs.Changes.{Become}
 use Rattle.words.proofs.Counts.{sound-fitting}
 use Rattle.words.proofs.TestedSound.{sound-contents}
-use Rattle.admission.specs.declared.Asked.{Asked}
-use Rattle.admission.specs.Asking.{Ready, Allowed, connectionOf, askedAt, withAsked}
+use Rattle.admission.specs.Asking.{Ready, Allowed, askedAt, withAsked}
 use Rattle.admission.proofs.Tables.{class-count}
-use Rattle.multiplexer.specs.Promised.{Leaves, askedIn, allowanceIn}
+use Rattle.multiplexer.specs.Promised.{Leaves}
 use Rattle.multiplexer.proofs.Sounds.{facts, leaves-same, leaves}
 
 -- What sound words give the search.
-row-at : (ws : List ℕ) (i : ℕ) → i < word ws 11 → getD (connections (contents ws)) i noConnection ≡ askedAt ws i
+row-at : (ws : List ℕ) (i : ℕ) → i < word ws rowCountAt → getD (connections (contents ws)) i noConnection ≡ askedAt ws i
 unfolding connections contents standings
 row-at ws i h =
     let d : Standing = record { asked = noConnection; allowance = full noConnection } in
-    List·getD-map (λ (s : Standing). s .asked) (standings ws) i d ∙ ap (λ s. s .asked) (getD-series (standingAt ws) 6 12 (word ws 11) i d h)
+    List·getD-map (λ (s : Standing). s .asked) (standings ws) i d ∙ ap (λ s. s .asked) (getD-series (standingAt ws) 6 rowsAt (word ws rowCountAt) i d h)
 
-rows-are : (ws : List ℕ) → length (connections (contents ws)) ≡ word ws 11
+rows-are : (ws : List ℕ) → length (connections (contents ws)) ≡ word ws rowCountAt
 unfolding connections contents standings
-rows-are ws = length-map (standings ws) (λ s. s .asked) ∙ length-series (standingAt ws) 6 12 (word ws 11)
+rows-are ws = length-map (standings ws) (λ s. s .asked) ∙ length-series (standingAt ws) 6 rowsAt (word ws rowCountAt)
 
 pub ready : (ws : List ℕ) → soundWords ws ≡ true → Ready ws
 unfolding contents
@@ -57,7 +58,7 @@ ready ws h =
           (getD-member (connections (contents ws)) i noConnection (let e = rows-are ws in omega arith)));
     }
 
-pub newcomer : (ws : List ℕ) (c : Asked) → withAsked ws c ≡ withNewcomer (contents ws) (connectionOf c)
+pub newcomer : (ws : List ℕ) (c : Connection) → withAsked ws c ≡ withNewcomer (contents ws) c
 unfolding withAsked withNewcomer connections contents
 newcomer ws c = refl
 
@@ -65,42 +66,42 @@ pub settings-are : (ws : List ℕ) → settingsAt ws ≡ contents ws .settings
 unfolding contents
 settings-are ws = refl
 
-pub cycle-word : (ws : List ℕ) → word ws 1 ≡ contents ws .settings .cycle
+pub cycle-word : (ws : List ℕ) → word ws cycleAt ≡ contents ws .settings .cycle
 unfolding contents settingsAt
 cycle-word ws = refl
 
-pub standing-word : (ws : List ℕ) → length (contents ws .standing) ≡ word ws 11
+pub standing-word : (ws : List ℕ) → length (contents ws .standing) ≡ word ws rowCountAt
 unfolding contents standings
-standing-word ws = length-series (standingAt ws) 6 12 (word ws 11)
+standing-word ws = length-series (standingAt ws) 6 rowsAt (word ws rowCountAt)
 
 -- The numbers of a connection, tested one after another.
-module _ (ws : List ℕ) (c : Asked) where
+module _ (ws : List ℕ) (c : Connection) where
   abbrev asks : Connection
-  asks = connectionOf c
+  asks = c
 
-  pub class-off : within 1 (c .class) (word ws 2) ≡ false → false ≡ connectionAllowed (contents ws .settings) asks
+  pub class-off : within 1 (c .class) (word ws classesAt) ≡ false → false ≡ connectionAllowed (contents ws .settings) asks
   unfolding connectionAllowed classAllowed contents
   class-off e = sym (ap (λ b. b && longestAllowed asks && burstAllowed asks && periodAllowed (settingsAt ws) asks) (ap (within 1 (c .class)) (class-count ws) ∙ e))
 
-  class-on : within 1 (c .class) (word ws 2) ≡ true → classAllowed (contents ws .settings) asks ≡ true
+  class-on : within 1 (c .class) (word ws classesAt) ≡ true → classAllowed (contents ws .settings) asks ≡ true
   unfolding classAllowed contents
   class-on e = ap (within 1 (c .class)) (class-count ws) ∙ e
 
-  pub longest-off : within 1 (c .class) (word ws 2) ≡ true → within 1 (c .longest) 64 ≡ false → false ≡ connectionAllowed (contents ws .settings) asks
+  pub longest-off : within 1 (c .class) (word ws classesAt) ≡ true → within 1 (c .longest) 64 ≡ false → false ≡ connectionAllowed (contents ws .settings) asks
   unfolding connectionAllowed longestAllowed
   longest-off e f = rw (class-on e, f) refl
 
-  pub burst-off : within 1 (c .class) (word ws 2) ≡ true → within 1 (c .longest) 64 ≡ true → within 1 (c .burst) 64 ≡ false → false ≡ connectionAllowed (contents ws .settings) asks
+  pub burst-off : within 1 (c .class) (word ws classesAt) ≡ true → within 1 (c .longest) 64 ≡ true → within 1 (c .burst) 64 ≡ false → false ≡ connectionAllowed (contents ws .settings) asks
   unfolding connectionAllowed longestAllowed burstAllowed
   burst-off e f g = rw (class-on e, f, g) refl
 
-  pub period-off : within 1 (c .class) (word ws 2) ≡ true → within 1 (c .longest) 64 ≡ true → within 1 (c .burst) 64 ≡ true
-      → within 1 (c .period) (word ws 1) ≡ false → false ≡ connectionAllowed (contents ws .settings) asks
+  pub period-off : within 1 (c .class) (word ws classesAt) ≡ true → within 1 (c .longest) 64 ≡ true → within 1 (c .burst) 64 ≡ true
+      → within 1 (c .period) (word ws cycleAt) ≡ false → false ≡ connectionAllowed (contents ws .settings) asks
   unfolding connectionAllowed longestAllowed burstAllowed periodAllowed contents settingsAt
   period-off e f g h = rw (class-on e, f, g, h) refl
 
-  pub divides : within 1 (c .class) (word ws 2) ≡ true → within 1 (c .longest) 64 ≡ true → within 1 (c .burst) 64 ≡ true
-      → within 1 (c .period) (word ws 1) ≡ true → eqb (word ws 1 % c .period) 0 ≡ connectionAllowed (contents ws .settings) asks
+  pub divides : within 1 (c .class) (word ws classesAt) ≡ true → within 1 (c .longest) 64 ≡ true → within 1 (c .burst) 64 ≡ true
+      → within 1 (c .period) (word ws cycleAt) ≡ true → eqb (word ws cycleAt % c .period) 0 ≡ connectionAllowed (contents ws .settings) asks
   unfolding connectionAllowed longestAllowed burstAllowed periodAllowed contents settingsAt
   divides e f g h = rw (class-on e, f, g, h) refl
 
@@ -134,13 +135,13 @@ module _ (ws : List ℕ) (c : Connection) (h : soundWords ws ≡ true) where
   pub refused : (r : Admitted) → r ≡ answer → afterAdmission (contents ws) c r ≡ contents ws → (r ≡ answer) × Leaves ws ws (afterAdmission (contents ws) c answer)
   refused r e same = (e, subst (Leaves ws ws) (sym same ∙ ap (afterAdmission (contents ws) c) e) (leaves-same ws h))
 
-  pub taken : (after : List ℕ) (n : ℕ) (row : Row) → askedIn row ≡ c → allowanceIn row ≡ full c → Admitted.Taken n ≡ answer
-      → Become ws after (withStanding (contents ws) (contents ws .standing ++ (record { asked = askedIn row; allowance = allowanceIn row } ∷ [])))
+  pub taken : (after : List ℕ) (n : ℕ) (row : Standing) → row ≡ record { asked = c; allowance = full c } → Admitted.Taken n ≡ answer
+      → Become ws after (withStanding (contents ws) (contents ws .standing ++ (row ∷ [])))
       → (Admitted.Taken n ≡ answer) × Leaves ws after (afterAdmission (contents ws) c answer)
   unfolding afterAdmission
-  taken after n row a f e b =
-      let k : withStanding (contents ws) (contents ws .standing ++ (record { asked = askedIn row; allowance = allowanceIn row } ∷ [])) ≡ afterAdmission (contents ws) c (Admitted.Taken n) =
-      ap₂ (λ x y. withStanding (contents ws) (contents ws .standing ++ (record { asked = x; allowance = y } ∷ []))) a f in (
+  taken after n row f e b =
+      let k : withStanding (contents ws) (contents ws .standing ++ (row ∷ [])) ≡ afterAdmission (contents ws) c (Admitted.Taken n) =
+      ap (λ x. withStanding (contents ws) (contents ws .standing ++ (x ∷ []))) f in (
         e,
         leaves ws after (afterAdmission (contents ws) c answer) h (admission-keeps-sound (contents ws) c (sound-contents ws h))
             (subst (Become ws after) (k ∙ ap (afterAdmission (contents ws) c) e) b),

@@ -11,16 +11,19 @@ use borrow.Author.Tests.{le-leb, lt-leb}
 use Rattle.laws.specs.Tests.{within, within-facts}
 use Rattle.laws.specs.Series.{length-series, getD-series}
 use Rattle.meaning.specs.declared.Offered.{Offered}
-use Rattle.meaning.specs.Numbers.{Connection, classCount, factor, largestFactor, mostWaiting, lastSlot}
-use Rattle.meaning.specs.Envelope.{Allowance, full, cameBack, refilled, conforms, charged, allowanceKept}
+use Rattle.meaning.specs.declared.Connection.{Connection}
+use Rattle.meaning.specs.Numbers.{classCount, factor, largestFactor, mostWaiting, lastSlot}
+use Rattle.meaning.specs.declared.Allowance.{Allowance}
+use Rattle.meaning.specs.Envelope.{full, cameBack, refilled, conforms, charged, allowanceKept}
 use Rattle.meaning.specs.Queues.{joinTail}
-use Rattle.meaning.specs.Box.{Box, Packet, Link, free, carries, connection, stands, waiting, onLink, packets, sound}
+use Rattle.meaning.specs.declared.Packet.{Packet}
+use Rattle.meaning.specs.Box.{Box, Link, free, carries, connection, stands, waiting, onLink, packets, sound}
 use Rattle.meaning.specs.Calls.{allowance, withStanding, chargedAt, joined, offerAnswer, afterOffer}
 use Rattle.meaning.proofs.Facts.{SoundFacts, ConnectionFacts, settings-facts}
 use Rattle.meaning.proofs.KeptByOffer.{number, asked-allowed, allowance-kept, factor-within, offer-keeps-sound}
 use Rattle.meaning.proofs.QueueLaws.{joined-length}
-use Rattle.words.specs.declared.parts.Row.{Row}
-use Rattle.words.specs.Places.{word, lengthsBelow}
+use Rattle.meaning.specs.declared.Standing.{Standing}
+use Rattle.words.specs.Places.{word, lengthsBelow, classesAt, factorsAt, rowCountAt, acceptedAt}
 use Rattle.words.specs.Contents.{contents, settingsAt, standings}
 use Rattle.words.specs.Sound.{Fitting, soundWords}
 use Rattle.words.specs.Changes.{Become, withQueues, withAccepted}
@@ -30,24 +33,24 @@ use Rattle.words.proofs.TestedSound.{sound-contents}
 use Rattle.words.proofs.SmallChanges.{become-then}
 use Rattle.admission.proofs.Tables.{class-count, factor-is}
 use Rattle.envelope.specs.Record.{sender, Ready}
-use Rattle.multiplexer.specs.Promised.{Leaves, askedIn, allowanceIn, RowReady, Acceptable, acceptedBox}
+use Rattle.multiplexer.specs.Promised.{Leaves, RowReady, Acceptable, acceptedBox}
 use Rattle.multiplexer.proofs.Sounds.{facts, leaves-same, leaves}
 
 -- The envelope uses only the burst and the period of a connection.
-pub conforms-same : (row : Row) (a : Allowance) (slot : ℕ) → conforms (sender (row .burst) (row .period)) a slot ≡ conforms (askedIn row) a slot
+pub conforms-same : (row : Standing) (a : Allowance) (slot : ℕ) → conforms (sender (row .asked .burst) (row .asked .period)) a slot ≡ conforms (row .asked) a slot
 unfolding conforms refilled cameBack full
 conforms-same row a slot = refl
 
-pub charged-same : (row : Row) (a : Allowance) (slot : ℕ) → charged (sender (row .burst) (row .period)) a slot ≡ charged (askedIn row) a slot
+pub charged-same : (row : Standing) (a : Allowance) (slot : ℕ) → charged (sender (row .asked .burst) (row .asked .period)) a slot ≡ charged (row .asked) a slot
 unfolding charged refilled cameBack full
 charged-same row a slot = refl
 
-kept-same : (row : Row) (a : Allowance) (slot : ℕ) → allowanceKept (sender (row .burst) (row .period)) slot a ≡ allowanceKept (askedIn row) slot a
+kept-same : (row : Standing) (a : Allowance) (slot : ℕ) → allowanceKept (sender (row .asked .burst) (row .asked .period)) slot a ≡ allowanceKept (row .asked) slot a
 unfolding allowanceKept
 kept-same row a slot = refl
 
 -- What the envelope's functions ask of a row.
-pub envelope-ready : (row : Row) (slot : ℕ) → RowReady row slot → Ready (row .burst) (row .period) (record { next = row .next; credit = row .credit }) slot
+pub envelope-ready : (row : Standing) (slot : ℕ) → RowReady row slot → Ready (row .asked .burst) (row .asked .period) (row .allowance) slot
 envelope-ready row slot r =
     record {
       burst-least = r .burst-least;
@@ -55,14 +58,14 @@ envelope-ready row slot r =
       period-least = r .period-least;
       period-most = r .period-most;
       slot-most = r .slot-most;
-      kept = kept-same row (allowanceIn row) slot ∙ r .kept;
+      kept = kept-same row (row .allowance) slot ∙ r .kept;
     }
 
 -- The row of a connection that stands.
-module _ (ws : List ℕ) (n : ℕ) (row : Row) (h : soundWords ws ≡ true) (s : stands (contents ws) n ≡ true)
-    (asked : connection (contents ws) n ≡ askedIn row) (allowed : allowance (contents ws) n ≡ allowanceIn row)
+module _ (ws : List ℕ) (n : ℕ) (row : Standing) (h : soundWords ws ≡ true) (s : stands (contents ws) n ≡ true)
+    (asked : connection (contents ws) n ≡ row .asked) (allowed : allowance (contents ws) n ≡ row .allowance)
   where
-    row-facts : ConnectionFacts (contents ws .settings) (askedIn row)
+    row-facts : ConnectionFacts (contents ws .settings) (row .asked)
     row-facts = subst (ConnectionFacts (contents ws .settings)) asked (asked-allowed (contents ws) n (facts ws h) s)
 
     pub row-ready : RowReady row (contents ws .counter)
@@ -76,11 +79,11 @@ module _ (ws : List ℕ) (n : ℕ) (row : Row) (h : soundWords ws ≡ true) (s :
           period-least = f .period-least;
           period-most = omega arith;
           slot-most = facts ws h .counter-most;
-          kept = subst (λ c. allowanceKept c (contents ws .counter) (allowanceIn row) ≡ true) asked
+          kept = subst (λ c. allowanceKept c (contents ws .counter) (row .allowance) ≡ true) asked
               (subst (λ a. allowanceKept (connection (contents ws) n) (contents ws .counter) a ≡ true) allowed (allowance-kept (contents ws) n (facts ws h) s));
         }
 
-    pub class-within : (1 ≤ row .class) × (row .class ≤ word ws 2)
+    pub class-within : (1 ≤ row .asked .class) × (row .asked .class ≤ word ws classesAt)
     unfolding contents
     class-within =
         let f = row-facts in
@@ -88,7 +91,7 @@ module _ (ws : List ℕ) (n : ℕ) (row : Row) (h : soundWords ws ≡ true) (s :
         let c = f .class-most in
         (f .class-least, omega arith)
 
-pub number-within : (ws : List ℕ) (n : ℕ) → stands (contents ws) n ≡ true → (1 ≤ n) × (n ≤ word ws 11)
+pub number-within : (ws : List ℕ) (n : ℕ) → stands (contents ws) n ≡ true → (1 ≤ n) × (n ≤ word ws rowCountAt)
 unfolding stands contents
 number-within ws n s =
     let k = within-facts 1 n (length (standings ws)) s in
@@ -96,8 +99,8 @@ number-within ws n s =
     (k .0, omega arith)
 
 -- The tag of a class: the factor that lies at word 2 + class.
-pub tag-is : (ws : List ℕ) (class : ℕ) → soundWords ws ≡ true → 1 ≤ class → class ≤ word ws 2
-    → (word ws (2 + class) ≡ factor (contents ws .settings) class) × (word ws (2 + class) ≤ largestFactor (contents ws .settings))
+pub tag-is : (ws : List ℕ) (class : ℕ) → soundWords ws ≡ true → 1 ≤ class → class ≤ word ws classesAt
+    → (word ws (factorsAt - 1 + class) ≡ factor (contents ws .settings) class) × (word ws (factorsAt - 1 + class) ≤ largestFactor (contents ws .settings))
 unfolding contents
 tag-is ws class h a b =
     let e = factor-is ws class a b in
@@ -105,7 +108,7 @@ tag-is ws class h a b =
     let m = factor-within (settingsAt ws) class (settings-facts (settingsAt ws) (facts ws h .settings-allowed)) a (omega arith) in
     (sym e, omega arith)
 
-pub classes-most : (ws : List ℕ) → soundWords ws ≡ true → word ws 2 ≤ 8
+pub classes-most : (ws : List ℕ) → soundWords ws ≡ true → word ws classesAt ≤ 8
 classes-most ws h = sound-fitting ws h .classes
 
 -- The count of accepted packets of sound words is far below 2^32.
@@ -124,12 +127,12 @@ accepted-most ws h =
     on-link free = omega arith
     on-link (carries p left) = omega arith
 
-accepted-word : (ws : List ℕ) → word ws 205 ≡ contents ws .accepted
+accepted-word : (ws : List ℕ) → word ws acceptedAt ≡ contents ws .accepted
 unfolding contents
 accepted-word ws = refl
 
 -- The three changes of an acceptance: the allowance a is written, the packet joins the queue tagged `tag`, and it is counted.
-module _ (ws : List ℕ) (n units : ℕ) (row : Row) (ok : Acceptable ws n units row) (a : Allowance) (tag : ℕ) where
+module _ (ws : List ℕ) (n units : ℕ) (row : Standing) (ok : Acceptable ws n units row) (a : Allowance) (tag : ℕ) where
   abbrev box : Box
   box = contents ws
 
@@ -160,7 +163,7 @@ module _ (ws : List ℕ) (n units : ℕ) (row : Row) (ok : Acceptable ws n units
       unfolding withQueues withStanding
       accepted-same = ap (λ b. b .accepted) joined-is
 
-      pub count-ready : Fitting w₂ × (word w₂ 205 < 4294967295)
+      pub count-ready : Fitting w₂ × (word w₂ acceptedAt < 4294967295)
       count-ready =
           let e = accepted-word w₂ ∙ accepted-same in
           let f = accepted-most ws (ok .sound-words) in
@@ -174,7 +177,7 @@ module _ (ws : List ℕ) (n units : ℕ) (row : Row) (ok : Acceptable ws n units
       unfolding waiting withQueues withStanding
       joined-more t = joined-length tag packet (box .queues) (let q = facts ws (ok .sound-words) .queue-count in omega arith)
 
-      box-is : a ≡ charged (askedIn row) (allowanceIn row) (box .counter) → tag ≡ factor (box .settings) (row .class)
+      box-is : a ≡ charged (row .asked) (row .allowance) (box .counter) → tag ≡ factor (box .settings) (row .asked .class)
           → withAccepted joinedBox (suc (joinedBox .accepted)) ≡ acceptedBox box n units
       unfolding withAccepted withQueues withStanding afterOffer chargedAt joined
       box-is ca ct =
@@ -194,7 +197,7 @@ module _ (ws : List ℕ) (n units : ℕ) (row : Row) (ok : Acceptable ws n units
               }
 
       -- they make the box of an accepted offer
-      pub accepted-becomes : a ≡ charged (askedIn row) (allowanceIn row) (box .counter) → tag ≡ factor (box .settings) (row .class) → tag ≤ largestFactor (box .settings)
+      pub accepted-becomes : a ≡ charged (row .asked) (row .allowance) (box .counter) → tag ≡ factor (box .settings) (row .asked .class) → tag ≤ largestFactor (box .settings)
           → (w₃ : List ℕ) → Become w₂ w₃ (withAccepted (contents w₂) (suc (contents w₂ .accepted))) → Become ws w₃ (acceptedBox box n units)
       accepted-becomes ca ct t w₃ counts =
           let more : length (waiting joinedBox) ≡ suc (length (waiting chargedBox)) = joined-more t in

@@ -10,17 +10,16 @@ use Rattle.meaning.specs.Calls.{admissionAnswer, afterAdmission, offerAnswer, a
 use Rattle.meaning.specs.Step.{stepAnswer, afterStep}
 use Rattle.words.specs.Contents.{contents}
 use Rattle.words.specs.Sound.{soundWords}
-use Rattle.admission.specs.declared.Asked.{Asked}
-use Rattle.admission.specs.Asking.{connectionOf}
+use Rattle.meaning.specs.declared.Connection.{Connection}
 use Rattle.multiplexer.specs.Promised.{admission, wordsAdmitted, offering, wordsOffered, stepping, wordsStepped}
 use Rattle.multiplexer.specs.Promises.{AdmitPromise, OfferPromise, StepPromise, AdmitSoundPromise, OfferSoundPromise, StepSoundPromise}
 use Rattle.multiplexer.proofs.Sounds.{promised}
 
 module _ (entry exit : List ℕ) (h : soundWords entry ≡ true) where
-  pub admit-same : (c : Asked) (r : Admitted) → AdmitSoundPromise entry c r exit → AdmitPromise entry (c .class) (c .longest) (c .burst) (c .period) r exit
+  pub admit-same : (c : Connection) (r : Admitted) → AdmitSoundPromise entry c r exit → AdmitPromise entry (c .class) (c .longest) (c .burst) (c .period) r exit
   unfolding admission wordsAdmitted
   admit-same c r p =
-      (p .0 ∙ rw h refl, promised entry exit (afterAdmission (contents entry) (connectionOf c) (admissionAnswer (contents entry) (connectionOf c))) h (p .1))
+      (p .0 ∙ rw h refl, promised entry exit (afterAdmission (contents entry) c (admissionAnswer (contents entry) c)) h (p .1))
 
   pub offer-same : (n units : ℕ) (r : Offered) → OfferSoundPromise entry n units r exit → OfferPromise entry n units r exit
   unfolding offering wordsOffered

@@ -6,7 +6,7 @@ use mathlib.Core.List.{List}
 use Rattle.meaning.specs.declared.Admitted.{Admitted}
 use Rattle.meaning.specs.declared.Offered.{Offered}
 use Rattle.meaning.specs.declared.Stepped.{Stepped}
-use Rattle.admission.specs.declared.Asked.{Asked}
+use Rattle.meaning.specs.declared.Connection.{Connection}
 use Rattle.words.proofs.Settles.{one}
 use Rattle.multiplexer.specs.Promises.{AdmitPromise, OfferPromise, StepPromise, AdmitSoundPromise, OfferSoundPromise, StepSoundPromise}
 
@@ -26,7 +26,7 @@ pub step-settles : (entry : List ℕ) (r s : Stepped) (after left : List ℕ) �
 step-settles entry r s after left p q = (one (p .0) (q .0), one (p .1) (q .1))
 
 -- The same calls for words that are known to be sound: `admit_sound`, `offer_sound` and `step_sound`.
-pub admit-sound-settles : (entry : List ℕ) (c : Asked) (r s : Admitted) (after left : List ℕ) →
+pub admit-sound-settles : (entry : List ℕ) (c : Connection) (r s : Admitted) (after left : List ℕ) →
     AdmitSoundPromise entry c r after → AdmitSoundPromise entry c s left → (r ≡ s) × (after ≡ left)
 admit-sound-settles entry c r s after left p q = (one (p .0) (q .0), one (p .1 .words-are) (q .1 .words-are))
 

@@ -11,12 +11,13 @@ use borrow.Author.Tests.{le-leb, lt-leb}
 use Rattle.meaning.specs.declared.Stepped.{Stepped}
 use Rattle.meaning.specs.Numbers.{lastSlot}
 use Rattle.meaning.specs.Queues.{turnAt, turned, tagZeroWaits}
-use Rattle.meaning.specs.Box.{Box, Packet, Link, free, carries, waiting, sound}
+use Rattle.meaning.specs.declared.Packet.{Packet}
+use Rattle.meaning.specs.Box.{Box, Link, free, carries, waiting, sound}
 use Rattle.meaning.specs.Step.{linkTaken, queuesTaken, sentAnswer, linkSent, turnDue, queuesStepped, moved, stepAnswer, afterStep}
 use Rattle.meaning.proofs.TagsAndRanks.{turn-test}
 use Rattle.meaning.proofs.KeptByStep.{sent-moves, step-keeps-sound}
 use Rattle.meaning.proofs.QueueLaws.{turned-length}
-use Rattle.words.specs.Places.{word}
+use Rattle.words.specs.Places.{word, intervalAt, counterAt}
 use Rattle.words.specs.Contents.{contents, linkOf, settingsAt}
 use Rattle.words.specs.Sound.{Fitting, soundWords}
 use Rattle.words.specs.Changes.{Become, withLink, withQueues, raised, loadedBox}
@@ -27,9 +28,9 @@ use Rattle.multiplexer.specs.Promised.{Leaves, sentBox}
 use Rattle.multiplexer.proofs.Sounds.{leaves-same, leaves}
 
 -- The turn, as the code tests it.
-pub turn-is : (ws : List ℕ) → eqb ((contents ws .counter + 1) % word ws 0) 0 ≡ turnDue (contents ws)
+pub turn-is : (ws : List ℕ) → eqb ((contents ws .counter + 1) % word ws intervalAt) 0 ≡ turnDue (contents ws)
 unfolding turnDue contents settingsAt
-turn-is ws = rw (add-one (word ws 204)) (sym (turn-test (word ws 0) (word ws 204)))
+turn-is ws = rw (add-one (word ws counterAt)) (sym (turn-test (word ws intervalAt) (word ws counterAt)))
 
 -- The unit sent, by what the link words say.
 module _ (box : Box) (departure : ℕ) (p : Packet) where
@@ -56,11 +57,11 @@ module _ (box : Box) (departure : ℕ) (p : Packet) where
         ap (withLink box) g ∙ sym (ap (λ l. withLink box (linkSent l)) f ∙ ap (λ b. withLink box (cond b free (carries p (left - 1)))) (lt-leb left 1 h)),
       )
 
-counter-word : (ws : List ℕ) → word ws 204 ≡ contents ws .counter
+counter-word : (ws : List ℕ) → word ws counterAt ≡ contents ws .counter
 unfolding contents
 counter-word ws = refl
 
-interval-word : (ws : List ℕ) → word ws 0 ≡ contents ws .settings .interval
+interval-word : (ws : List ℕ) → word ws intervalAt ≡ contents ws .settings .interval
 unfolding contents settingsAt
 interval-word ws = refl
 
@@ -94,11 +95,11 @@ module _ (ws w₁ w₂ : List ℕ) (loads : Become ws w₁ (loadedBox (contents 
 
   -- what raising the counter asks
   pub raise-ready : box .counter < lastSlot → (turnDue box && tagZeroWaits (queuesTaken (box .link) (box .queues))) ≡ false
-      → Fitting w₂ × (word w₂ 204 < 4294967295) × (turnAt (word w₂ 0) (suc (word w₂ 204)) ≡ true → tagZeroWaits (contents w₂ .queues) ≡ false)
+      → Fitting w₂ × (word w₂ counterAt < 4294967295) × (turnAt (word w₂ intervalAt) (suc (word w₂ counterAt)) ≡ true → tagZeroWaits (contents w₂ .queues) ≡ false)
   unfolding turnDue
   raise-ready l b =
-      let c : word w₂ 204 ≡ box .counter = counter-word w₂ ∙ counter-same in
-      let d : word w₂ 0 ≡ box .settings .interval = interval-word w₂ ∙ interval-same in
+      let c : word w₂ counterAt ≡ box .counter = counter-word w₂ ∙ counter-same in
+      let d : word w₂ intervalAt ≡ box .settings .interval = interval-word w₂ ∙ interval-same in
       (sends .fitting, omega arith, λ t. ap tagZeroWaits queues-same ∙ only-second (turnAt (box .settings .interval) (suc (box .counter))) _ b (sym (ap₂ turnAt d (ap suc c)) ∙ t))
 
   raised-moved : raised (sentBox (loadedBox box)) ≡ moved box

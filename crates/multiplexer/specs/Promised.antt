@@ -9,12 +9,14 @@ use Rattle.meaning.specs.declared.Offered.{Offered}
 use Rattle.meaning.specs.declared.Stepped.{Stepped}
 use lib.ListN.{length}
 use Rattle.laws.specs.Tests.{within}
-use Rattle.meaning.specs.Numbers.{Connection, mostWaiting, lastSlot}
-use Rattle.meaning.specs.Envelope.{Allowance, conforms, allowanceKept}
+use Rattle.meaning.specs.declared.Connection.{Connection}
+use Rattle.meaning.specs.Numbers.{mostWaiting, lastSlot}
+use Rattle.meaning.specs.declared.Allowance.{Allowance}
+use Rattle.meaning.specs.Envelope.{conforms, allowanceKept}
 use Rattle.meaning.specs.Box.{Box, connection, stands, waiting}
 use Rattle.meaning.specs.Calls.{allowance, admissionAnswer, afterAdmission, offerAnswer, afterOffer}
 use Rattle.meaning.specs.Step.{linkSent, stepAnswer, afterStep}
-use Rattle.words.specs.declared.parts.Row.{Row}
+use Rattle.meaning.specs.declared.Standing.{Standing}
 use Rattle.words.specs.Contents.{contents, put}
 use Rattle.words.specs.Sound.{soundWords}
 use Rattle.words.specs.Changes.{withLink}
@@ -54,30 +56,23 @@ pub record Leaves (ws after : List ℕ) (box : Box) : Type 0 where
 unfoldable pub sentBox : Box → Box
 sentBox box = withLink box (linkSent (box .link))
 
--- What a connection in a row asked for, and its allowance.
-abbrev pub askedIn : Row → Connection
-askedIn row = record { class = row .class; longest = row .longest; burst = row .burst; period = row .period }
-
-abbrev pub allowanceIn : Row → Allowance
-allowanceIn row = record { next = row .next; credit = row .credit }
-
 -- A row whose numbers are allowed, with an allowance in its range at this slot.
-pub record RowReady (row : Row) (slot : ℕ) : Type 0 where
-  pub burst-least : 1 ≤ row .burst
-  pub burst-most : row .burst ≤ 64
-  pub period-least : 1 ≤ row .period
-  pub period-most : row .period ≤ 4096
+pub record RowReady (row : Standing) (slot : ℕ) : Type 0 where
+  pub burst-least : 1 ≤ row .asked .burst
+  pub burst-most : row .asked .burst ≤ 64
+  pub period-least : 1 ≤ row .asked .period
+  pub period-most : row .asked .period ≤ 4096
   pub slot-most : slot ≤ lastSlot
-  pub kept : allowanceKept (askedIn row) slot (allowanceIn row) ≡ true
+  pub kept : allowanceKept (row .asked) slot (row .allowance) ≡ true
 
 -- A packet that is taken: its connection stands in this row, its length is permitted, it conforms, and there is room for it.
-pub record Acceptable (ws : List ℕ) (n units : ℕ) (row : Row) : Type 0 where
+pub record Acceptable (ws : List ℕ) (n units : ℕ) (row : Standing) : Type 0 where
   pub sound-words : soundWords ws ≡ true
   pub number-stands : stands (contents ws) n ≡ true
-  pub row-asked : connection (contents ws) n ≡ askedIn row
-  pub row-allowance : allowance (contents ws) n ≡ allowanceIn row
-  pub permitted : within 1 units (row .longest) ≡ true
-  pub fit : conforms (askedIn row) (allowanceIn row) (contents ws .counter) ≡ true
+  pub row-asked : connection (contents ws) n ≡ row .asked
+  pub row-allowance : allowance (contents ws) n ≡ row .allowance
+  pub permitted : within 1 units (row .asked .longest) ≡ true
+  pub fit : conforms (row .asked) (row .allowance) (contents ws .counter) ≡ true
   pub room : length (waiting (contents ws)) < mostWaiting
 
 -- The box once it is taken.

@@ -8,8 +8,7 @@ use Rattle.meaning.specs.declared.Stepped.{Stepped}
 use Rattle.meaning.specs.Calls.{admissionAnswer, afterAdmission, offerAnswer, afterOffer}
 use Rattle.meaning.specs.Step.{stepAnswer, afterStep}
 use Rattle.words.specs.Contents.{contents}
-use Rattle.admission.specs.declared.Asked.{Asked}
-use Rattle.admission.specs.Asking.{connectionOf}
+use Rattle.meaning.specs.declared.Connection.{Connection}
 use Rattle.multiplexer.specs.Promised.{Leaves, admission, wordsAdmitted, offering, wordsOffered, stepping, wordsStepped}
 
 -- `multiplexer::admitting::admit`: "Admission: 1, 3, 4, 5, 6."
@@ -27,10 +26,10 @@ abbrev pub StepPromise : List ℕ → Stepped → List ℕ → Type 0
 StepPromise entry r exit = (r ≡ stepping entry) × (exit ≡ wordsStepped entry)
 
 -- The same calls on words that are known to be sound.
-abbrev pub AdmitSoundPromise : List ℕ → Asked → Admitted → List ℕ → Type 0
+abbrev pub AdmitSoundPromise : List ℕ → Connection → Admitted → List ℕ → Type 0
 AdmitSoundPromise entry c r exit =
-    (r ≡ admissionAnswer (contents entry) (connectionOf c)) ×
-    Leaves entry exit (afterAdmission (contents entry) (connectionOf c) (admissionAnswer (contents entry) (connectionOf c)))
+    (r ≡ admissionAnswer (contents entry) c) ×
+    Leaves entry exit (afterAdmission (contents entry) c (admissionAnswer (contents entry) c))
 
 abbrev pub OfferSoundPromise : List ℕ → ℕ → ℕ → Offered → List ℕ → Type 0
 OfferSoundPromise entry n units r exit =

@@ -1,11 +1,12 @@
 // Admission. Document 01, "Admission".
-use admission::Asked;
 use admission::Found;
 use admission::first_failing;
 use admission::rate;
 use meaning::Admitted;
+use meaning::Allowance;
+use meaning::Connection;
+use meaning::Standing;
 use words::numbers::is_within;
-use words::parts::Row;
 use words::parts::append_row;
 use words::parts::standing_count;
 use words::soundness::is_sound;
@@ -15,14 +16,12 @@ ghost use Rattle.meaning.specs.Numbers.{connectionAllowed};
 ghost use Rattle.meaning.specs.Envelope.{full};
 ghost use Rattle.words.specs.Contents.{contents};
 ghost use Rattle.words.specs.Sound.{soundWords};
-ghost use Rattle.admission.specs.Asking.{connectionOf};
-ghost use Rattle.multiplexer.specs.Promised.{askedIn, allowanceIn};
 ghost use Rattle.multiplexer.specs.Promises.{AdmitPromise, AdmitSoundPromise};
 
 // Whether the numbers of a connection are allowed: class, s, b and T in range, T dividing M.
-fn allowed(ws: &[u32], c: Asked) -> bool
+fn allowed(ws: &[u32], c: Connection) -> bool
     requires { ⌜ soundWords (now ws) ≡ true ⌝ }
-    ensures { λ r. ⌜ r ≡ connectionAllowed (contents (now (ws .entry)) .settings) (connectionOf c) ⌝ }
+    ensures { λ r. ⌜ r ≡ connectionAllowed (contents (now (ws .entry)) .settings) c ⌝ }
 {
     let cycle = ws[1];
     let period = c.period;
@@ -42,7 +41,7 @@ fn allowed(ws: &[u32], c: Asked) -> bool
 }
 
 // An admission on sound words.
-pub fn admit_sound(ws: &mut [u32], c: Asked) -> Admitted
+pub fn admit_sound(ws: &mut [u32], c: Connection) -> Admitted
     requires { ⌜ soundWords (now ws) ≡ true ⌝ }
     ensures { λ r. ⌜ AdmitSoundPromise (now (ws .entry)) c r (now (ws .exit)) ⌝ }
 {
@@ -68,16 +67,15 @@ pub fn admit_sound(ws: &mut [u32], c: Asked) -> Admitted
 }
 
 // The row of a connection that is taken: what it asked for, with all its credits.
-fn fresh_row(c: Asked) -> Row
-    ensures { λ r. ⌜ (askedIn r ≡ connectionOf c) × (allowanceIn r ≡ full (connectionOf c)) ⌝ }
+fn fresh_row(c: Connection) -> Standing
+    ensures { λ r. ⌜ r ≡ record { asked = c; allowance = full c } ⌝ }
 {
-    Row {
-        class: c.class,
-        longest: c.longest,
-        burst: c.burst,
-        period: c.period,
-        next: 0,
-        credit: c.burst,
+    Standing {
+        asked: c,
+        allowance: Allowance {
+            next: 0,
+            credit: c.burst,
+        },
     }
 }
 
@@ -90,7 +88,7 @@ pub fn admit(ws: &mut [u32], class: u32, longest: u32, burst: u32, period: u32) 
     }
     admit_sound(
         ws,
-        Asked {
+        Connection {
             class,
             longest,
             burst,

@@ -1,11 +1,11 @@
 // Offering a packet. Document 01, "Envelope" and "Queues and steps".
-use envelope::Allowance;
 use envelope::charge_record;
 use envelope::conforming;
 use meaning::Offered;
+use meaning::Packet;
+use meaning::Standing;
 use words::numbers::is_within;
 use words::numbers::wide;
-use words::parts::Row;
 use words::parts::accepted;
 use words::parts::count_accepted;
 use words::parts::counter;
@@ -20,7 +20,7 @@ ghost use mathlib.Core.Bool.{true};
 ghost use Prim.Native.Nat.{suc, _+_, _≤_};
 ghost use Rattle.meaning.specs.Numbers.{factor, largestFactor};
 ghost use Rattle.meaning.specs.Envelope.{conforms};
-ghost use Rattle.words.specs.Places.{word};
+ghost use Rattle.words.specs.Places.{word, classesAt};
 ghost use Rattle.words.specs.Contents.{contents};
 ghost use Rattle.words.specs.Sound.{soundWords};
 ghost use Rattle.words.specs.Changes.{Become};
@@ -29,7 +29,7 @@ ghost use Rattle.multiplexer.specs.Promises.{OfferPromise, OfferSoundPro
 
 // The factor of a connection's class: the tag of the queue that its packets join.
 fn tag_of(ws: &[u32], class: u32) -> usize
-    requires { ⌜ (soundWords (now ws) ≡ true) × ((1 ≤ class) × (class ≤ word (now ws) 2)) ⌝ }
+    requires { ⌜ (soundWords (now ws) ≡ true) × ((1 ≤ class) × (class ≤ word (now ws) classesAt)) ⌝ }
     ensures { λ r. ⌜ (r ≡ factor (contents (now (ws .entry)) .settings) class) × (r ≤ largestFactor (contents (now (ws .entry)) .settings)) ⌝ }
 {
     let at = wide(class);
@@ -37,30 +37,41 @@ fn tag_of(ws: &[u32], class: u32) -> usize
 }
 
 // The packet is accepted: its connection is charged once, it joins the tail of its queue, and it is counted.
-fn accept(ws: &mut [u32], n: u32, units: u32, row: Row) -> u32
+fn accept(ws: &mut [u32], n: u32, units: u32, row: Standing) -> u32
     requires { ⌜ Acceptable (now ws) n units row ⌝ }
     ensures { λ r. ⌜ (r ≡ suc (contents (now (ws .entry)) .accepted)) × Become (now (ws .entry)) (now (ws .exit)) (acceptedBox (contents (now (ws .entry))) n units) ⌝ }
 {
     let slot = counter(ws);
     let serial = accepted(ws) + 1;
-    let tag = tag_of(ws, row.class);
-    let charged = charge_record(row.next, row.credit, row.burst, row.period, slot);
+    let tag = tag_of(ws, row.asked.class);
+    let charged = charge_record(
+        row.allowance.next,
+        row.allowance.credit,
+        row.asked.burst,
+        row.asked.period,
+        slot,
+    );
     write_allowance(ws, n, charged.next, charged.credit);
-    join(ws, tag, serial, n, units, slot);
+    join(
+        ws,
+        tag,
+        Packet {
+            serial,
+            connection: n,
+            units,
+            arrival: slot,
+        },
+    );
     count_accepted(ws);
     serial
 }
 
 // Whether a packet of this connection conforms at this slot.
-fn fits(row: Row, slot: u32) -> bool
+fn fits(row: Standing, slot: u32) -> bool
     requires { ⌜ RowReady row slot ⌝ }
-    ensures { λ r. ⌜ r ≡ conforms (record { class = row .class; longest = row .longest; burst = row .burst; period = row .period }) (record { next = row .next; credit = row .credit }) slot ⌝ }
+    ensures { λ r. ⌜ r ≡ conforms (row .asked) (row .allowance) slot ⌝ }
 {
-    let a = Allowance {
-        next: row.next,
-        credit: row.credit,
-    };
-    conforming(row.burst, row.period, a, slot)
+    conforming(row.asked.burst, row.asked.period, row.allowance, slot)
 }
 
 // An offer on sound words.
@@ -72,7 +83,7 @@ pub fn offer_sound(ws: &mut [u32], n: u32, units: u32) -> Offered
         return Offered::NoConnection;
     }
     let row = read_row(ws, n);
-    if !is_within(1, units, row.longest) {
+    if !is_within(1, units, row.asked.longest) {
         return Offered::WrongLength;
     }
     if !fits(row, counter(ws)) {

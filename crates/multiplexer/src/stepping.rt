@@ -1,4 +1,5 @@
 // One step. Document 01, "Queues and steps", second paragraph.
+use meaning::Packet;
 use meaning::Stepped;
 use words::parts::counter;
 use words::parts::raise_counter;
@@ -58,24 +59,26 @@ fn send_unit(ws: &mut [u32], departure: u32) -> Stepped
         return Stepped::Idle;
     }
     if left <= 1 {
-        write_link(ws, 0, 0, 0, 0, 0);
+        write_link(
+            ws,
+            0,
+            Packet {
+                serial: 0,
+                connection: 0,
+                units: 0,
+                arrival: 0,
+            },
+        );
         return Stepped::Departed {
-            serial: link.serial,
-            connection: link.connection,
-            arrival: link.arrival,
+            serial: link.packet.serial,
+            connection: link.packet.connection,
+            arrival: link.packet.arrival,
             departure,
         };
     }
-    write_link(
-        ws,
-        left - 1,
-        link.serial,
-        link.connection,
-        link.units,
-        link.arrival,
-    );
+    write_link(ws, left - 1, link.packet);
     Stepped::Sending {
-        serial: link.serial,
+        serial: link.packet.serial,
         left: left - 1,
     }
 }

@@ -6,8 +6,9 @@ use native.Mathlib.Omega.{arith}
 use native.Mathlib.Nat.{not-suc-le-zero, div-div-eq-div-mul, div-add-mod, mod-eq-of-lt}
 use lib.ListN.{length, getD, List·getD-append}
 use lib.Seq.{getD-append-add, ext-getD}
-use Rattle.meaning.specs.Numbers.{Connection}
-use Rattle.meaning.specs.Plan.{Arrival, wordAt, wordsOf, bytesOfWord, table, connectionAt, arrivalAt, connectionWords, arrivalWords}
+use Rattle.meaning.specs.declared.Connection.{Connection}
+use Rattle.meaning.specs.declared.Arrival.{Arrival}
+use Rattle.meaning.specs.Plan.{wordAt, wordsOf, bytesOfWord, table, connectionAt, arrivalAt, connectionWords, arrivalWords}
 use Rattle.plan.specs.Bytes.{bytesOfWords}
 use Rattle.plan.specs.Entries.{Local, table-same, connection-local, arrival-local}
 use Rattle.plan.specs.Words.{length-wordsOf, word-within, wordAt-same}

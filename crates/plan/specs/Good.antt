@@ -9,11 +9,12 @@ use native.Mathlib.Nat.{mul-assoc}
 use lib.ListN.{length, getD, take, drop, length-take, length-drop}
 use borrow.Author.Tests.{le-leb, not-false}
 use Rattle.laws.specs.Tests.{bool-cases}
-use Rattle.meaning.specs.Numbers.{Connection}
+use Rattle.meaning.specs.declared.Connection.{Connection}
 use Rattle.meaning.specs.declared.Header.{Header}
 use Rattle.meaning.specs.declared.Table.{Table}
 use Rattle.meaning.specs.declared.PlanRead.{PlanRead}
-use Rattle.meaning.specs.Plan.{Arrival, wordsOf, headerOf, contentsOf, sizeWrong, sumWrong, layoutWrong, slotsWrong, neverFallingFrom, readingAnswer, table, factorAt, connectionAt, arrivalAt}
+use Rattle.meaning.specs.declared.Arrival.{Arrival}
+use Rattle.meaning.specs.Plan.{wordsOf, headerOf, contentsOf, sizeWrong, sumWrong, layoutWrong, slotsWrong, neverFallingFrom, readingAnswer, table, factorAt, connectionAt, arrivalAt}
 use Rattle.plan.specs.Entries.{Local, factor-local, connection-local, arrival-local, getD-table}
 use Rattle.plan.specs.Parts.{partOf, arrivalsIn}
 use Rattle.plan.specs.Layout.{Layout, layout-facts, layout-right, part-table}

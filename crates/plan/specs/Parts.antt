@@ -5,10 +5,8 @@ use mathlib.Core.List.{List, [], _∷_}
 use lib.ListN.{length, getD, take, drop}
 use lib.Dec.{leb, ltb}
 use Rattle.meaning.specs.declared.Table.{Table}
-use Rattle.meaning.specs.Numbers
 use Rattle.meaning.specs.Plan
-use Rattle.plan.specs.declared.tables.ConnectionEntry.{ConnectionEntry}
-use Rattle.plan.specs.declared.tables.ArrivalEntry.{ArrivalEntry}
+use Rattle.meaning.specs.declared.Arrival.{Arrival}
 
 -- The table that two words of a header tell, the count and then the offset.
 unfoldable pub tableOf : List ℕ → ℕ → Table
@@ -19,28 +17,21 @@ unfoldable pub partOf : List ℕ → Table → ℕ → List ℕ
 partOf bytes t width =
     cond (leb (t .start + width * t .count) (length bytes)) (take (width * t .count) (drop (t .start) bytes)) []
 
--- What an entry that was read stands for.
-unfoldable pub connectionOf : ConnectionEntry → Numbers.Connection
-connectionOf c = record { class = c .class; longest = c .longest; burst = c .burst; period = c .period }
-
-unfoldable pub arrivalOf : ArrivalEntry → Plan.Arrival
-arrivalOf a = record { slot = a .slot; place = a .place; units = a .units }
-
 -- The arrivals of a table of words: three words each.
-unfoldable pub arrivalsOfWords : List ℕ → List Plan.Arrival
+unfoldable pub arrivalsOfWords : List ℕ → List Arrival
 arrivalsOfWords ws = Plan.table Plan.arrivalAt 3 ws 0 (length ws / 3)
 
 -- The arrivals of a table of bytes: twelve bytes each.
-unfoldable pub arrivalsIn : List ℕ → List Plan.Arrival
+unfoldable pub arrivalsIn : List ℕ → List Arrival
 arrivalsIn bytes = Plan.table Plan.arrivalAt 3 (Plan.wordsOf bytes) 0 (length bytes / 12)
 
 -- How many arrivals at the head of a list have slots below a limit.
-unfoldable pub leading : ℕ → List Plan.Arrival → ℕ
+unfoldable pub leading : ℕ → List Arrival → ℕ
 leading limit [] = 0
 leading limit (a ∷ l) = cond (ltb (a .slot) limit) (suc (leading limit l)) 0
 
 -- The first arrival, from the one numbered `from` on, whose slot is the limit or more.
-unfoldable pub boundary : List Plan.Arrival → ℕ → ℕ → ℕ
+unfoldable pub boundary : List Arrival → ℕ → ℕ → ℕ
 boundary l from limit = from + leading limit (drop from l)
 
 -- Where the stretch of a slot starts and where it ends, in entries.

@@ -7,9 +7,9 @@ use Rattle.meaning.specs.declared.Table.{Table}
 use Rattle.meaning.specs.declared.PlanRead.{PlanRead}
 use Rattle.meaning.specs.declared.PlanWritten.{PlanWritten}
 use Rattle.meaning.specs.Plan.{Lent, wordsOf, factorAt, connectionAt, arrivalAt, readingAnswer, writingAnswer}
-use Rattle.plan.specs.declared.tables.ConnectionEntry.{ConnectionEntry}
-use Rattle.plan.specs.declared.tables.ArrivalEntry.{ArrivalEntry}
-use Rattle.plan.specs.Parts.{partOf, connectionOf, arrivalOf, arrivalsIn, boundary, stretchOf}
+use Rattle.meaning.specs.declared.Connection.{Connection}
+use Rattle.meaning.specs.declared.Arrival.{Arrival}
+use Rattle.plan.specs.Parts.{partOf, arrivalsIn, boundary, stretchOf}
 use Rattle.plan.specs.Written.{bytesAfter}
 
 -- what both answers equal settles them
@@ -27,15 +27,12 @@ pub factor-settled : (bytes : List ℕ) (i r s : ℕ) → r ≡ factorAt (wordsO
 factor-settled bytes i r s = one
 
 pub connection-settled :
-    (bytes : List ℕ) (i : ℕ) (r s : ConnectionEntry) → connectionOf r ≡ connectionAt (wordsOf bytes) i → connectionOf s ≡ connectionAt (wordsOf bytes) i → r ≡ s
-unfolding connectionOf
-connection-settled bytes i r s p q =
-    ap (λ c. record { class = c .class; longest = c .longest; burst = c .burst; period = c .period }) (one p q)
+    (bytes : List ℕ) (i : ℕ) (r s : Connection) → r ≡ connectionAt (wordsOf bytes) i → s ≡ connectionAt (wordsOf bytes) i → r ≡ s
+connection-settled bytes i r s = one
 
 pub arrival-settled :
-    (bytes : List ℕ) (i : ℕ) (r s : ArrivalEntry) → arrivalOf r ≡ arrivalAt (wordsOf bytes) i → arrivalOf s ≡ arrivalAt (wordsOf bytes) i → r ≡ s
-unfolding arrivalOf
-arrival-settled bytes i r s p q = ap (λ a. record { slot = a .slot; place = a .place; units = a .units }) (one p q)
+    (bytes : List ℕ) (i : ℕ) (r s : Arrival) → r ≡ arrivalAt (wordsOf bytes) i → s ≡ arrivalAt (wordsOf bytes) i → r ≡ s
+arrival-settled bytes i r s = one
 
 pub first-from-settled :
     (bytes : List ℕ) (from limit r s : ℕ) → r ≡ boundary (arrivalsIn bytes) from limit → s ≡ boundary (arrivalsIn bytes) from limit → r ≡ s

@@ -4,8 +4,9 @@ use mathlib.Core.Path.{_≡_, refl, _∙_}
 use mathlib.Core.List.{List, [], _∷_, map, flatten}
 use native.Mathlib.Omega.{arith}
 use lib.ListN.{length, length-append}
-use Rattle.meaning.specs.Numbers.{Connection}
-use Rattle.meaning.specs.Plan.{Plan, Arrival, connectionWords, arrivalWords, tableWords, headerWords, planWords, planBytes, sizeOf}
+use Rattle.meaning.specs.declared.Connection.{Connection}
+use Rattle.meaning.specs.declared.Arrival.{Arrival}
+use Rattle.meaning.specs.Plan.{Plan, connectionWords, arrivalWords, tableWords, headerWords, planWords, planBytes, sizeOf}
 use Rattle.plan.specs.Bytes.{bytesOfWords}
 use Rattle.plan.specs.Pasting.{length-bytes}
 

@@ -10,7 +10,8 @@ use lib.ListN.{take, drop}
 use lib.Dec.{leb}
 use borrow.Author.Tests.{leb-true, le-leb, lt-ltb, le-ltb, eq-eqb, ne-eqb}
 use Rattle.laws.specs.Lists.{keep}
-use Rattle.meaning.specs.Plan.{Arrival, neverFallingFrom, arrivalsOf}
+use Rattle.meaning.specs.declared.Arrival.{Arrival}
+use Rattle.meaning.specs.Plan.{neverFallingFrom, arrivalsOf}
 use Rattle.plan.specs.Parts.{leading}
 
 -- a list that never falls: its first slot, and the rest

@@ -12,7 +12,8 @@ use lib.Dec.{leb}
 use borrow.Author.Tests.{le-leb, lt-leb, lt-ltb, le-ltb}
 use Rattle.laws.specs.Tests.{every}
 use Rattle.laws.specs.Sums.{sumOf}
-use Rattle.meaning.specs.Plan.{Arrival, neverFallingFrom, lastArrivalSlot, slotsWrong, table, arrivalAt}
+use Rattle.meaning.specs.declared.Arrival.{Arrival}
+use Rattle.meaning.specs.Plan.{neverFallingFrom, lastArrivalSlot, slotsWrong, table, arrivalAt}
 use Rattle.plan.specs.Entries.{getD-table}
 use Rattle.plan.specs.Parts.{leading, boundary}
 

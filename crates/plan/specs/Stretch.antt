@@ -6,7 +6,8 @@ use mathlib.Core.List.{List, [], _∷_}
 use native.Mathlib.Omega.{arith}
 use lib.ListN.{length, getD, take, drop, length-take, length-drop}
 use lib.Dec.{ltb}
-use Rattle.meaning.specs.Plan.{Arrival, wordsOf, table, arrivalAt, neverFallingFrom, arrivalsOf}
+use Rattle.meaning.specs.declared.Arrival.{Arrival}
+use Rattle.meaning.specs.Plan.{wordsOf, table, arrivalAt, neverFallingFrom, arrivalsOf}
 use Rattle.plan.specs.Entries.{length-table, getD-table, take-table, drop-table, arrival-local}
 use Rattle.plan.specs.Parts.{arrivalsIn, leading, boundary, stretchStart, stretchEnd, stretchOf}
 use Rattle.plan.specs.Layout.{part-table}

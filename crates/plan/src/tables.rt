@@ -2,26 +2,13 @@
 ghost use mathlib.Core.Path.{_≡_};
 ghost use Prim.Native.Nat.{_+_, _*_, _<_};
 ghost use Rattle.meaning.specs.Plan.{wordsOf, factorAt, connectionAt, arrivalAt};
-ghost use Rattle.plan.specs.Parts.{partOf, connectionOf, arrivalOf, arrivalsIn, boundary, stretchOf};
+ghost use Rattle.plan.specs.Parts.{partOf, arrivalsIn, boundary, stretchOf};
 use super::words::number;
 use super::words::word;
+use meaning::Arrival;
+use meaning::Connection;
 use meaning::Header;
 use meaning::Table;
-
-// An entry of the connection table: "class, s, b, T per connection".
-pub struct ConnectionEntry {
-    pub class: u32,
-    pub longest: u32,
-    pub burst: u32,
-    pub period: u32,
-}
-
-// An entry of the arrival table: "slot, connection, length per arrival".
-pub struct ArrivalEntry {
-    pub slot: u32,
-    pub place: u32,
-    pub units: u32,
-}
 
 // The part of a plan that starts at a table's offset and holds its entries of so many bytes each; empty where the plan has no such part.
 fn part(plan: &[u8], t: Table, width: usize) -> &[u8]
@@ -72,18 +59,18 @@ pub fn factor(classes: &[u8], i: usize) -> u32
 }
 
 // The entry numbered i of a connection table, counted from 0; a word past its end is 0.
-pub fn connection(connections: &[u8], i: usize) -> ConnectionEntry
-    ensures { λ r. ⌜ connectionOf r ≡ connectionAt (wordsOf (now (connections .entry))) (4 * i) ⌝ }
+pub fn connection(connections: &[u8], i: usize) -> Connection
+    ensures { λ r. ⌜ r ≡ connectionAt (wordsOf (now (connections .entry))) (4 * i) ⌝ }
 {
     if i > connections.len() / 16 {
-        return ConnectionEntry {
+        return Connection {
             class: 0,
             longest: 0,
             burst: 0,
             period: 0,
         };
     }
-    ConnectionEntry {
+    Connection {
         class: number(connections, 4 * i),
         longest: number(connections, 4 * i + 1),
         burst: number(connections, 4 * i + 2),
@@ -92,17 +79,17 @@ pub fn connection(connections: &[u8], i: usize) -> ConnectionEntry
 }
 
 // The entry numbered i of an arrival table, or of a stretch of one, counted from 0; a word past its end is 0.
-pub fn arrival(arrivals: &[u8], i: usize) -> ArrivalEntry
-    ensures { λ r. ⌜ arrivalOf r ≡ arrivalAt (wordsOf (now (arrivals .entry))) (3 * i) ⌝ }
+pub fn arrival(arrivals: &[u8], i: usize) -> Arrival
+    ensures { λ r. ⌜ r ≡ arrivalAt (wordsOf (now (arrivals .entry))) (3 * i) ⌝ }
 {
     if i > arrivals.len() / 12 {
-        return ArrivalEntry {
+        return Arrival {
             slot: 0,
             place: 0,
             units: 0,
         };
     }
-    ArrivalEntry {
+    Arrival {
         slot: number(arrivals, 3 * i),
         place: number(arrivals, 3 * i + 1),
         units: number(arrivals, 3 * i + 2),

@@ -10,7 +10,8 @@ use lib.Dec.{leb, ltb, eqb}
 use borrow.Author.Tests.{leb-true, lt-ltb, le-ltb, eq-eqb, ne-eqb}
 use Rattle.laws.specs.Tests.{every}
 use Rattle.laws.specs.Lists.{Placed, keep, placedFrom}
-use Rattle.meaning.specs.Plan.{Arrival, neverFallingFrom, arrivalsOf}
+use Rattle.meaning.specs.declared.Arrival.{Arrival}
+use Rattle.meaning.specs.Plan.{neverFallingFrom, arrivalsOf}
 use Rattle.plan.specs.Parts.{leading}
 use Rattle.plan.specs.Slots.{slot-together}
 

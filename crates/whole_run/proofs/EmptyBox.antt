@@ -11,7 +11,8 @@ use borrow.Author.Tests.{lt-leb, eqb-true}
 use Rattle.meaning.specs.declared.Stepped.{Stepped}
 use Rattle.meaning.specs.Numbers.{lastSlot}
 use Rattle.meaning.specs.Queues.{turned, lowestHead, tagZeroWaits}
-use Rattle.meaning.specs.Box.{Box, Packet, Link, free, carries, waiting, onLink, packets, sound}
+use Rattle.meaning.specs.declared.Packet.{Packet}
+use Rattle.meaning.specs.Box.{Box, Link, free, carries, waiting, onLink, packets, sound}
 use Rattle.meaning.specs.Step.{loaded, linkTaken, queuesTaken, sentAnswer, linkSent, turnDue, stepAnswer, queuesStepped, moved, afterStep}
 use Rattle.meaning.proofs.QueueLaws.{nothing-taken}
 use Rattle.meaning.proofs.KeepsSound.{step-keeps-sound}

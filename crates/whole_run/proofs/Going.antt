@@ -11,7 +11,7 @@ use Rattle.meaning.specs.Box.{Box}
 use Rattle.meaning.specs.Answers.{stepped}
 use Rattle.meaning.specs.Calls.{offerAnswer, afterOffer}
 use Rattle.meaning.specs.Step.{moved}
-use Rattle.meaning.specs.Plan.{Arrival}
+use Rattle.meaning.specs.declared.Arrival.{Arrival}
 use Rattle.meaning.specs.Run.{Line, endLine, stopLine, numberOf, offerAll, departures, finished}
 use Rattle.meaning.specs.Lines.{lineText, textOf}
 use Rattle.meaning.proofs.SlotsEnough.{potential}

@@ -13,7 +13,8 @@ use Rattle.meaning.specs.declared.Stepped.{Stepped}
 use Rattle.meaning.specs.Numbers.{lastSlot}
 use Rattle.meaning.specs.Box.{Box, packets, sound}
 use Rattle.meaning.specs.Step.{stepAnswer, moved}
-use Rattle.meaning.specs.Plan.{Arrival, wordsOf, arrivalAt, neverFallingFrom, lastArrivalSlot}
+use Rattle.meaning.specs.declared.Arrival.{Arrival}
+use Rattle.meaning.specs.Plan.{wordsOf, arrivalAt, neverFallingFrom, lastArrivalSlot}
 use Rattle.meaning.specs.Run.{offerAll, departures, finished}
 use Rattle.meaning.proofs.SlotsEnough.{potential}
 use Rattle.meaning.proofs.RestOfRun.{restOf, dueNow, afterAnswer, rest-goes-on, slot-falls}
@@ -21,8 +22,7 @@ use Rattle.words.specs.Contents.{contents}
 use Rattle.words.specs.Sound.{soundWords}
 use Rattle.words.specs.Changes.{Become, withCounter}
 use Rattle.words.proofs.TestedSound.{sound-contents}
-use Rattle.plan.specs.declared.tables.ArrivalEntry.{ArrivalEntry}
-use Rattle.plan.specs.Parts.{arrivalOf, arrivalsIn, leading}
+use Rattle.plan.specs.Parts.{arrivalsIn, leading}
 use Rattle.plan.specs.Slots.{slot-together, leading-next}
 use Rattle.plan.specs.Steps.{noArrival}
 use Rattle.plan.specs.Stretch.{length-arrivalsIn, arrival-of-table}
@@ -130,13 +130,12 @@ stays bytes passed ws s w =
     record { still-sound = s; walked = w; later = omega arith; same-rest = λ numbers departed. refl; no-more = omega arith }
 
 -- The entry of that number tells the slot of the next arrival.
-next-is : (bytes : List ℕ) (passed : ℕ) (a : ArrivalEntry) → passed < length bytes / 12 → arrivalOf a ≡ arrivalAt (wordsOf bytes) (3 * passed)
+next-is : (bytes : List ℕ) (passed : ℕ) (a : Arrival) → passed < length bytes / 12 → a ≡ arrivalAt (wordsOf bytes) (3 * passed)
     → a .slot ≡ getD (arrivalsIn bytes) passed noArrival .slot
-unfolding arrivalOf
 next-is bytes passed a h e = ap (λ (x : Arrival). x .slot) (e ∙ arrival-of-table bytes passed h)
 
 -- The words with the counter raised to that slot stand for the box that passed the slots before it.
-module _ (bytes : List ℕ) (passed : ℕ) (ws after : List ℕ) (s : soundWords ws ≡ true) (walked : Walked bytes (contents ws) passed) (sorted : Sorted bytes) (a : ArrivalEntry) (remain : passed < length bytes / 12) (read : arrivalOf a ≡ arrivalAt (wordsOf bytes) (3 * passed)) where
+module _ (bytes : List ℕ) (passed : ℕ) (ws after : List ℕ) (s : soundWords ws ≡ true) (walked : Walked bytes (contents ws) passed) (sorted : Sorted bytes) (a : Arrival) (remain : passed < length bytes / 12) (read : a ≡ arrivalAt (wordsOf bytes) (3 * passed)) where
   pub passes-idle : contents ws .counter < a .slot → eqb (length (packets (contents ws))) 0 ≡ true → Become ws after (withCounter (contents ws) (a .slot))
       → PassesIdle bytes passed (contents ws) after
   unfolding withCounter

@@ -11,7 +11,8 @@ use Rattle.meaning.specs.declared.Offered.{Offered}
 use Rattle.meaning.specs.Box.{Box}
 use Rattle.meaning.specs.Answers.{offered}
 use Rattle.meaning.specs.Calls.{offerAnswer, afterOffer}
-use Rattle.meaning.specs.Plan.{Arrival, wordsOf, arrivalAt}
+use Rattle.meaning.specs.declared.Arrival.{Arrival}
+use Rattle.meaning.specs.Plan.{wordsOf, arrivalAt}
 use Rattle.meaning.specs.Run.{AfterOffers, offerLine, numberOf, offerAll}
 use Rattle.meaning.specs.Lines.{lineText, textOf}
 use Rattle.words.specs.Contents.{contents}

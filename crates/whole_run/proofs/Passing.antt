@@ -8,7 +8,8 @@ use native.Mathlib.Omega.{arith}
 use lib.ListN.{length, length-append}
 use lib.Dec.{eqb}
 use borrow.Author.Tests.{ne-eqb}
-use Rattle.meaning.specs.Box.{Box, Packet, free, carries, waiting, onLink, packets}
+use Rattle.meaning.specs.declared.Packet.{Packet}
+use Rattle.meaning.specs.Box.{Box, free, carries, waiting, onLink, packets}
 use Rattle.meaning.specs.Run.{finished}
 use Rattle.words.specs.Contents.{linkOf}
 use Rattle.plan.specs.Parts.{arrivalsIn}

@@ -10,7 +10,7 @@ use Rattle.meaning.specs.declared.Stepped.{Stepped}
 use Rattle.meaning.specs.Box.{Box}
 use Rattle.meaning.specs.Answers.{refusal, stepped}
 use Rattle.meaning.specs.Step.{moved, afterStep}
-use Rattle.meaning.specs.Plan.{Arrival}
+use Rattle.meaning.specs.declared.Arrival.{Arrival}
 use Rattle.meaning.specs.Run.{departLine, stopLine, placeOf, departures}
 use Rattle.meaning.specs.Lines.{lineText, textOf}
 use Rattle.meaning.proofs.RestOfRun.{restOf, afterAnswer}

@@ -60,13 +60,13 @@ module _ (bytes : List ℕ) (answer : PlanRead) (is : answer ≡ readingAnswer b
   refused-16 e = run-text bytes ∙ ap textOf (reads ∙ ap (readRun bytes) e) ∙ text-one (refusedLine 16)
 
 -- Words enough are lent, so only the settings decide.
-opening-same : (settings : Settings) (ws : List ℕ) → length ws ≡ 4371 → openings.opened settings ws .0 ≡ openingAnswer 0 0 settings
+opening-same : (settings : Settings) (ws : List ℕ) → length ws ≡ boxWords → openings.opened settings ws .0 ≡ openingAnswer 0 0 settings
 unfolding openings.opened openingAnswer
 opening-same settings ws e =
     rw (le-ltb (length ws) boxWords (omega (arith, e))) refl
 
 -- Reading succeeds: opening decides.
-module _ (bytes : List ℕ) (h : Header) (r : Readable bytes h) (classes factors ws : List ℕ) (part : classes ≡ partOf bytes (h .classes) 4) (copied : factors ≡ table factorAt 1 (wordsOf classes) 0 8) (size : 4371 ≡ length ws) {answer : Opened} {exit : List ℕ} (is : (answer, exit) ≡ openings.opened (openings.asked (h .interval) (h .cycle) (take (length classes / 4) factors)) ws) where
+module _ (bytes : List ℕ) (h : Header) (r : Readable bytes h) (classes factors ws : List ℕ) (part : classes ≡ partOf bytes (h .classes) 4) (copied : factors ≡ table factorAt 1 (wordsOf classes) 0 8) (size : boxWords ≡ length ws) {answer : Opened} {exit : List ℕ} (is : (answer, exit) ≡ openings.opened (openings.asked (h .interval) (h .cycle) (take (length classes / 4) factors)) ws) where
   abbrev settings : Settings
   settings = openings.asked (h .interval) (h .cycle) (take (length classes / 4) factors)
 

@@ -13,7 +13,8 @@ use Rattle.meaning.specs.declared.Header.{Header}
 use Rattle.meaning.specs.declared.Table.{Table}
 use Rattle.meaning.specs.Box.{Box}
 use Rattle.meaning.specs.Calls.{newBox}
-use Rattle.meaning.specs.Plan.{Plan, Arrival, wordsOf, contentsOf, table, factorAt, connectionAt, neverFallingFrom, lastArrivalSlot, slotsWrong}
+use Rattle.meaning.specs.declared.Arrival.{Arrival}
+use Rattle.meaning.specs.Plan.{Plan, wordsOf, contentsOf, table, factorAt, connectionAt, neverFallingFrom, lastArrivalSlot, slotsWrong}
 use Rattle.meaning.specs.Run.{AfterAdmissions, admitAll, openRun}
 use Rattle.meaning.specs.Lines.{textOf}
 use Rattle.meaning.proofs.SlotsEnough.{admissions-weight}

@@ -8,11 +8,12 @@ use lib.Dec.{leb}
 use Rattle.laws.specs.Tests.{every}
 use Rattle.laws.specs.Lists.{Placed, placedFrom}
 use Rattle.meaning.specs.declared.Stepped.{Stepped}
-use Rattle.meaning.specs.Numbers.{Connection}
+use Rattle.meaning.specs.declared.Connection.{Connection}
 use Rattle.meaning.specs.Box.{Box}
 use Rattle.meaning.specs.Answers.{stepped}
 use Rattle.meaning.specs.Step.{stepAnswer, afterStep}
-use Rattle.meaning.specs.Plan.{Arrival, wordsOf, table, connectionAt, neverFallingFrom, lastArrivalSlot}
+use Rattle.meaning.specs.declared.Arrival.{Arrival}
+use Rattle.meaning.specs.Plan.{wordsOf, table, connectionAt, neverFallingFrom, lastArrivalSlot}
 use Rattle.meaning.specs.Run.{Line, AfterAdmissions, AfterOffers, admitAll, offerAll, departures}
 use Rattle.meaning.specs.Lines.{textOf}
 use Rattle.meaning.proofs.SlotsEnough.{potential}

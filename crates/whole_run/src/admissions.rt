@@ -2,7 +2,6 @@
 use super::answers::admission_number;
 use super::answers::failing_t;
 use super::answers::number_given;
-use admission::Asked;
 use lines::put_admit;
 use multiplexer::admitting::admit_sound;
 use plan::tables::connection;
@@ -27,15 +26,7 @@ pub fn admit_all(ws: &mut [u32], table: &[u8], numbers: &mut [u32], out: &mut [u
     let mut i: usize = 0;
     while i < count {
         let c = connection(table, i);
-        let answer = admit_sound(
-            ws,
-            Asked {
-                class: c.class,
-                longest: c.longest,
-                burst: c.burst,
-                period: c.period,
-            },
-        );
+        let answer = admit_sound(ws, c);
         at = put_admit(
             out,
             at,

@@ -11,9 +11,11 @@ use borrow.Author.Tests.{ne-eqb}
 use Rattle.laws.specs.Series.{series, length-series, getD-series, series-same, series-read, series-self, map-append, flatten-append, chunks-read, length-chunks, every-zeros}
 use Rattle.laws.specs.Tests.{every, within-facts}
 use Rattle.meaning.specs.Numbers.{largestFactor, classCount}
-use Rattle.meaning.specs.Box.{Box, Packet, Standing, Link, free, carries, linkKept, sound}
+use Rattle.meaning.specs.declared.Packet.{Packet}
+use Rattle.meaning.specs.declared.Standing.{Standing}
+use Rattle.meaning.specs.Box.{Box, Link, free, carries, linkKept, sound}
 use Rattle.meaning.proofs.Facts.{sound-facts, settings-facts}
-use Rattle.words.specs.Places.{word, startOf, lengthsBelow, placeOf, tagOf}
+use Rattle.words.specs.Places.{word, startOf, lengthsBelow, placeOf, tagOf, factorsAt, rowCountAt, rowsAt, counterAt, leftAt, linkAt, lengthsAt, packetsAt}
 use Rattle.words.specs.Contents.{contents, settingsAt, standingAt, standings, packetAt, linkOf, turnsAt, queueAt, queuesAt, padded, standingWords, packetWords, linkWords, turnsOf, byPlace, image, put}
 use Rattle.words.specs.Sound.{zeros, unusedClear, linkClear, emptyFrom, untaggedEmpty}
 use Rattle.words.proofs.Rotation.{place-below, tag-of-place}
@@ -82,14 +84,14 @@ link-size (carries p left) = refl
 -- the parts of words that contents put
 record Parts (box : Box) (ws : List ℕ) : Type 0 where
   rest : List ℕ
-  at-0 : ws ≡ (box .settings .interval ∷ box .settings .cycle ∷ length (box .settings .factors) ∷ []) ++ drop 3 ws
-  at-3 : drop 3 ws ≡ padded 8 (box .settings .factors) ++ drop 11 ws
-  at-11 : drop 11 ws ≡ (length (box .standing) ∷ []) ++ drop 12 ws
-  at-12 : drop 12 ws ≡ padded 192 (flatten (map standingWords (box .standing))) ++ drop 204 ws
-  at-204 : drop 204 ws ≡ (box .counter ∷ box .accepted ∷ []) ++ drop 206 ws
-  at-206 : drop 206 ws ≡ linkWords (box .link) ++ drop 211 ws
-  at-211 : drop 211 ws ≡ map length (byPlace box) ++ drop 275 ws
-  at-275 : drop 275 ws ≡ flatten (map packetWords (flatten (byPlace box))) ++ rest
+  at-0 : ws ≡ (box .settings .interval ∷ box .settings .cycle ∷ length (box .settings .factors) ∷ []) ++ drop factorsAt ws
+  at-3 : drop factorsAt ws ≡ padded 8 (box .settings .factors) ++ drop rowCountAt ws
+  at-11 : drop rowCountAt ws ≡ (length (box .standing) ∷ []) ++ drop rowsAt ws
+  at-12 : drop rowsAt ws ≡ padded 192 (flatten (map standingWords (box .standing))) ++ drop counterAt ws
+  at-204 : drop counterAt ws ≡ (box .counter ∷ box .accepted ∷ []) ++ drop leftAt ws
+  at-206 : drop leftAt ws ≡ linkWords (box .link) ++ drop lengthsAt ws
+  at-211 : drop lengthsAt ws ≡ map length (byPlace box) ++ drop packetsAt ws
+  at-275 : drop packetsAt ws ≡ flatten (map packetWords (flatten (byPlace box))) ++ rest
 
 pub length-places : (box : Box) → length (byPlace box) ≡ 64
 unfolding byPlace
@@ -112,13 +114,13 @@ put-parts box ws k =
     length-padded 192 (flatten (map standingWords (box .standing)))
     (rw (length-chunks standingWords 6 standing-size (box .standing)) (omega (arith, k .rows))) in
     let l6 : length s6 ≡ 64 = length-map (byPlace box) length ∙ length-places box in
-    let e3 : drop 3 ws′ ≡ s1 ++ (s2 ++ (s3 ++ (s4 ++ (s5 ++ (s6 ++ (s7 ++ R)))))) = simp append-assoc in
-    let e11 = after-part ws′ s1 (s2 ++ (s3 ++ (s4 ++ (s5 ++ (s6 ++ (s7 ++ R)))))) 3 8 e3 l1 in
-    let e12 = after-part ws′ s2 (s3 ++ (s4 ++ (s5 ++ (s6 ++ (s7 ++ R))))) 11 1 e11 refl in
-    let e204 = after-part ws′ s3 (s4 ++ (s5 ++ (s6 ++ (s7 ++ R)))) 12 192 e12 l3 in
-    let e206 = after-part ws′ s4 (s5 ++ (s6 ++ (s7 ++ R))) 204 2 e204 refl in
-    let e211 = after-part ws′ s5 (s6 ++ (s7 ++ R)) 206 5 e206 (link-size (box .link)) in
-    let e275 = after-part ws′ s6 (s7 ++ R) 211 64 e211 l6 in
+    let e3 : drop factorsAt ws′ ≡ s1 ++ (s2 ++ (s3 ++ (s4 ++ (s5 ++ (s6 ++ (s7 ++ R)))))) = simp append-assoc in
+    let e11 = after-part ws′ s1 (s2 ++ (s3 ++ (s4 ++ (s5 ++ (s6 ++ (s7 ++ R)))))) factorsAt 8 e3 l1 in
+    let e12 = after-part ws′ s2 (s3 ++ (s4 ++ (s5 ++ (s6 ++ (s7 ++ R))))) rowCountAt 1 e11 refl in
+    let e204 = after-part ws′ s3 (s4 ++ (s5 ++ (s6 ++ (s7 ++ R)))) rowsAt 192 e12 l3 in
+    let e206 = after-part ws′ s4 (s5 ++ (s6 ++ (s7 ++ R))) counterAt 2 e204 refl in
+    let e211 = after-part ws′ s5 (s6 ++ (s7 ++ R)) leftAt 5 e206 (link-size (box .link)) in
+    let e275 = after-part ws′ s6 (s7 ++ R) lengthsAt 64 e211 l6 in
     record {
       rest = R;
       at-0 = refl;
@@ -131,9 +133,9 @@ put-parts box ws k =
       at-275 = e275;
     })
 
-pub length-queue : (ws : List ℕ) (p : ℕ) → length (queueAt ws p) ≡ word ws (211 + p)
+pub length-queue : (ws : List ℕ) (p : ℕ) → length (queueAt ws p) ≡ word ws (lengthsAt + p)
 unfolding queueAt
-length-queue ws p = length-series (packetAt ws) 4 (startOf ws p) (word ws (211 + p))
+length-queue ws p = length-series (packetAt ws) 4 (startOf ws p) (word ws (lengthsAt + p))
 
 zeros-series : (start n : ℕ) → series {A = ℕ} (λ _. 0) 1 start n ≡ replicate n 0
 unfolding series
@@ -141,10 +143,10 @@ zeros-series start zero = refl
 zeros-series start (suc n) = ap (λ l. 0 ∷ l) (zeros-series (start + 1) n)
 
 -- the lengths of the queues stand in their places
-length-read : (box : Box) (ws : List ℕ) → Parts box ws → (p : ℕ) → p < 64 → word ws (211 + p) ≡ length (getD (byPlace box) p [])
+length-read : (box : Box) (ws : List ℕ) → Parts box ws → (p : ℕ) → p < 64 → word ws (lengthsAt + p) ≡ length (getD (byPlace box) p [])
 length-read box ws k p h =
-    word-at ws (length (getD (byPlace box) p [])) (map length (byPlace box) ++ drop 275 ws) 211 p (k .at-211)
-    (List·getD-append (map length (byPlace box)) (drop 275 ws) 0 p
+    word-at ws (length (getD (byPlace box) p [])) (map length (byPlace box) ++ drop packetsAt ws) lengthsAt p (k .at-211)
+    (List·getD-append (map length (byPlace box)) (drop packetsAt ws) 0 p
     (let l : length (map (length {A = Packet}) (byPlace box)) ≡ 64 = length-map (byPlace box) length ∙ length-places box in omega arith) ∙
     List·getD-map length (byPlace box) p [])
 
@@ -187,10 +189,10 @@ queue-found box ws k p h =
     let r = drop (suc p) places in
     let Q = flatten (map packetWords q) in
     let l : p < length places = omega (arith, length-places box) in
-    let e : drop 275 ws ≡ flat a ++ (Q ++ (flat r ++ k .rest)) =
+    let e : drop packetsAt ws ≡ flat a ++ (Q ++ (flat r ++ k .rest)) =
     k .at-275 ∙ ap (λ t. flat t ++ k .rest) (split-at places p [] l) ∙ ap (λ t. t ++ k .rest) (flat-split a q r) ∙
     append-assoc (flat a) (Q ++ flat r) (k .rest) ∙ ap (λ t. flat a ++ t) (append-assoc Q (flat r) (k .rest)) in
-    after-part ws (flat a) (Q ++ (flat r ++ k .rest)) 275 (4 * lengthsBelow ws p) e
+    after-part ws (flat a) (Q ++ (flat r ++ k .rest)) packetsAt (4 * lengthsBelow ws p) e
     (length-chunks packetWords 4 packet-size (flatten a) ∙ ap (λ n. 4 * n) (sym (below-read box ws k p (omega arith)))))
 
 queue-read : (box : Box) (ws : List ℕ) → Parts box ws → (p : ℕ) → p < 64 → queueAt ws p ≡ getD (byPlace box) p []
@@ -218,37 +220,37 @@ settings-read box ws k =
     let d = word-at ws (box .settings .interval) ws 0 0 refl (ap (λ l. getD l 0 0) (k .at-0)) in
     let m = word-at ws (box .settings .cycle) ws 0 1 refl (ap (λ l. getD l 1 0) (k .at-0)) in
     let n = word-at ws (length fs) ws 0 2 refl (ap (λ l. getD l 2 0) (k .at-0)) in
-    rw (d, m, n, series-read ws fs (replicate (8 - length fs) 0 ++ drop 11 ws) 3 (k .at-3 ∙ append-assoc fs (replicate (8 - length fs) 0) (drop 11 ws))))
+    rw (d, m, n, series-read ws fs (replicate (8 - length fs) 0 ++ drop rowCountAt ws) factorsAt (k .at-3 ∙ append-assoc fs (replicate (8 - length fs) 0) (drop rowCountAt ws))))
 
 standings-read : (box : Box) (ws : List ℕ) → Parts box ws → standings ws ≡ box .standing
 unfolding standings padded
 standings-read box ws k =
-    (let n = word-at ws (length (box .standing)) ((length (box .standing) ∷ []) ++ drop 12 ws) 11 0 (k .at-11) refl in
+    (let n = word-at ws (length (box .standing)) ((length (box .standing) ∷ []) ++ drop rowsAt ws) rowCountAt 0 (k .at-11) refl in
     let words = flatten (map standingWords (box .standing)) in
     let pad : List ℕ = replicate (192 - length words) 0 in
-    rw n (chunks-read (standingAt ws) standingWords 6 ws standing-size (standing-read ws) (box .standing) (pad ++ drop 204 ws) 12
-    (k .at-12 ∙ append-assoc words pad (drop 204 ws))))
+    rw n (chunks-read (standingAt ws) standingWords 6 ws standing-size (standing-read ws) (box .standing) (pad ++ drop counterAt ws) rowsAt
+    (k .at-12 ∙ append-assoc words pad (drop counterAt ws))))
 
 pub link-carries : (left : ℕ) (p : Packet) → 1 ≤ left → linkOf left p ≡ carries p left
 unfolding linkOf
 link-carries zero p h = absurd (omega arith)
 link-carries (suc n) p h = refl
 
-link-read : (l : Link) (ws r : List ℕ) → linkKept l ≡ true → drop 206 ws ≡ linkWords l ++ r → linkOf (word ws 206) (packetAt ws 207) ≡ l
+link-read : (l : Link) (ws r : List ℕ) → linkKept l ≡ true → drop leftAt ws ≡ linkWords l ++ r → linkOf (word ws leftAt) (packetAt ws linkAt) ≡ l
 unfolding linkWords linkOf linkKept
-link-read free ws r k e = rw (word-at ws 0 (linkWords free ++ r) 206 0 e refl)
+link-read free ws r k e = rw (word-at ws 0 (linkWords free ++ r) leftAt 0 e refl)
 link-read (carries p left) ws r k e =
-    (let a : word ws 206 ≡ left = word-at ws left (linkWords (carries p left) ++ r) 206 0 e refl in
-    let b : packetAt ws 207 ≡ p = packet-read ws p r 207 (after-part ws (left ∷ []) (packetWords p ++ r) 206 1 e refl) in
+    (let a : word ws leftAt ≡ left = word-at ws left (linkWords (carries p left) ++ r) leftAt 0 e refl in
+    let b : packetAt ws linkAt ≡ p = packet-read ws p r linkAt (after-part ws (left ∷ []) (packetWords p ++ r) leftAt 1 e refl) in
     let h : 1 ≤ left = within-facts 1 left (p .units - 1) k .0 in
     let c : linkOf left p ≡ carries p left = link-carries left p h in
-    ap (λ n. linkOf n (packetAt ws 207)) a ∙ ap (linkOf left) b ∙ c)
+    ap (λ n. linkOf n (packetAt ws linkAt)) a ∙ ap (linkOf left) b ∙ c)
 
 turns-read : (box : Box) (ws : List ℕ) → Parts box ws → turnsAt ws ≡ turnsOf box
 unfolding turnsAt turnsOf
 turns-read box ws k =
     (let d = word-at ws (box .settings .interval) ws 0 0 refl (ap (λ l. getD l 0 0) (k .at-0)) in
-    let n = word-at ws (box .counter) ((box .counter ∷ box .accepted ∷ []) ++ drop 206 ws) 204 0 (k .at-204) refl in
+    let n = word-at ws (box .counter) ((box .counter ∷ box .accepted ∷ []) ++ drop leftAt ws) counterAt 0 (k .at-204) refl in
     rw (d, n))
 
 queues-read : (box : Box) (ws : List ℕ) → Puttable box → Parts box ws → queuesAt ws ≡ box .queues
@@ -264,9 +266,9 @@ queues-read box ws kept k =
 parts-contents : (box : Box) (ws : List ℕ) → Puttable box → Parts box ws → contents ws ≡ box
 unfolding contents
 parts-contents box ws kept k =
-    (let n = word-at ws (box .counter) ((box .counter ∷ box .accepted ∷ []) ++ drop 206 ws) 204 0 (k .at-204) refl in
-    let a = word-at ws (box .accepted) ((box .counter ∷ box .accepted ∷ []) ++ drop 206 ws) 204 1 (k .at-204) refl in
-    rw (settings-read box ws k, standings-read box ws k, n, a, link-read (box .link) ws (drop 211 ws) (kept .link) (k .at-206), queues-read box ws kept k))
+    (let n = word-at ws (box .counter) ((box .counter ∷ box .accepted ∷ []) ++ drop leftAt ws) counterAt 0 (k .at-204) refl in
+    let a = word-at ws (box .accepted) ((box .counter ∷ box .accepted ∷ []) ++ drop leftAt ws) counterAt 1 (k .at-204) refl in
+    rw (settings-read box ws k, standings-read box ws k, n, a, link-read (box .link) ws (drop lengthsAt ws) (kept .link) (k .at-206), queues-read box ws kept k))
 
 -- contents that are put are read again
 pub contents-put : (box : Box) (ws : List ℕ) → Puttable box → contents (put box ws) ≡ box
@@ -285,32 +287,32 @@ unused-put box ws k =
     (let fs = box .settings .factors in
     let rows = flatten (map standingWords (box .standing)) in
     let p = word-at ws (length fs) ws 0 2 refl (ap (λ l. getD l 2 0) (k .at-0)) in
-    let n = word-at ws (length (box .standing)) ((length (box .standing) ∷ []) ++ drop 12 ws) 11 0 (k .at-11) refl in
-    let a = k .at-3 ∙ append-assoc fs (replicate (8 - length fs) 0) (drop 11 ws) in
-    let b = k .at-12 ∙ append-assoc rows (replicate (192 - length rows) 0) (drop 204 ws) in
+    let n = word-at ws (length (box .standing)) ((length (box .standing) ∷ []) ++ drop rowsAt ws) rowCountAt 0 (k .at-11) refl in
+    let a = k .at-3 ∙ append-assoc fs (replicate (8 - length fs) 0) (drop rowCountAt ws) in
+    let b = k .at-12 ∙ append-assoc rows (replicate (192 - length rows) 0) (drop counterAt ws) in
     let m : length rows ≡ 6 * length (box .standing) = length-chunks standingWords 6 standing-size (box .standing) in
     rw (p, n, ← m)
-    (and-eq-true-iff (zeros ws (3 + length fs) (8 - length fs)) (zeros ws (12 + length rows) (192 - length rows)) .1 (
-      zeros-read ws (drop 11 ws) (3 + length fs) (8 - length fs)
-          (after-part ws fs (replicate (8 - length fs) 0 ++ drop 11 ws) 3 (length fs) a refl),
-      zeros-read ws (drop 204 ws) (12 + length rows) (192 - length rows)
-          (after-part ws rows (replicate (192 - length rows) 0 ++ drop 204 ws) 12 (length rows) b refl),
+    (and-eq-true-iff (zeros ws (factorsAt + length fs) (8 - length fs)) (zeros ws (rowsAt + length rows) (192 - length rows)) .1 (
+      zeros-read ws (drop rowCountAt ws) (factorsAt + length fs) (8 - length fs)
+          (after-part ws fs (replicate (8 - length fs) 0 ++ drop rowCountAt ws) factorsAt (length fs) a refl),
+      zeros-read ws (drop counterAt ws) (rowsAt + length rows) (192 - length rows)
+          (after-part ws rows (replicate (192 - length rows) 0 ++ drop counterAt ws) rowsAt (length rows) b refl),
     )))
 
-link-put : (l : Link) (ws r : List ℕ) → linkKept l ≡ true → drop 206 ws ≡ linkWords l ++ r → linkClear ws ≡ true
+link-put : (l : Link) (ws r : List ℕ) → linkKept l ≡ true → drop leftAt ws ≡ linkWords l ++ r → linkClear ws ≡ true
 unfolding linkWords linkClear linkKept
 link-put free ws r k e =
-    rw (word-at ws 0 (linkWords free ++ r) 206 0 e refl) (zeros-read ws r 207 4 (after-part ws (0 ∷ []) (0 ∷ 0 ∷ 0 ∷ 0 ∷ r) 206 1 e refl))
+    rw (word-at ws 0 (linkWords free ++ r) leftAt 0 e refl) (zeros-read ws r linkAt 4 (after-part ws (0 ∷ []) (0 ∷ 0 ∷ 0 ∷ 0 ∷ r) leftAt 1 e refl))
 link-put (carries p left) ws r k e =
-    (let a : word ws 206 ≡ left = word-at ws left (linkWords (carries p left) ++ r) 206 0 e refl in
+    (let a : word ws leftAt ≡ left = word-at ws left (linkWords (carries p left) ++ r) leftAt 0 e refl in
     let h : 1 ≤ left = within-facts 1 left (p .units - 1) k .0 in
-    ap (λ b. cond b (zeros ws 207 4) true) (ne-eqb (word ws 206) 0 (omega arith)))
+    ap (λ b. cond b (zeros ws linkAt 4) true) (ne-eqb (word ws leftAt) 0 (omega arith)))
 
 untagged-put : (box : Box) (ws : List ℕ) → Puttable box → Parts box ws → untaggedEmpty ws ≡ true
 unfolding untaggedEmpty emptyFrom
 untagged-put box ws kept k =
     (let r = largestFactor (box .settings) in
-    let f : ℕ → ℕ = λ t. word ws (211 + placeOf (turnsOf box) t) in
+    let f : ℕ → ℕ = λ t. word ws (lengthsAt + placeOf (turnsOf box) t) in
     rw (settings-read box ws k, turns-read box ws k)
     (ap (every (λ w. eqb w 0)) (series-same f (λ _. 0) 1 (suc r) 0 (63 - r) (λ i h.
     (let t = suc r + 1 * i in
@@ -322,7 +324,7 @@ pub put-unused : (box : Box) (ws : List ℕ) → Puttable box → unusedClear (p
 put-unused box ws k = unused-put box (put box ws) (put-parts box ws k)
 
 pub put-link : (box : Box) (ws : List ℕ) → Puttable box → linkClear (put box ws) ≡ true
-put-link box ws k = link-put (box .link) (put box ws) (drop 211 (put box ws)) (k .link) (put-parts box ws k .at-206)
+put-link box ws k = link-put (box .link) (put box ws) (drop lengthsAt (put box ws)) (k .link) (put-parts box ws k .at-206)
 
 pub put-untagged : (box : Box) (ws : List ℕ) → Puttable box → untaggedEmpty (put box ws) ≡ true
 put-untagged box ws k = untagged-put box (put box ws) k (put-parts box ws k)

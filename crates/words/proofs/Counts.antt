@@ -11,16 +11,17 @@ use lib.Dec.{leb}
 use borrow.Author.Tests.{leb-true, le-leb}
 use Rattle.laws.specs.Series.{series-self, length-flatten, sumBelow, sumBelow-same, sumBelow-zeros, sumBelow-turned, length-chunks}
 use Rattle.meaning.specs.Numbers.{largestFactor, classCount}
-use Rattle.meaning.specs.Box.{Box, Packet, waiting, sound}
+use Rattle.meaning.specs.declared.Packet.{Packet}
+use Rattle.meaning.specs.Box.{Box, waiting, sound}
 use Rattle.meaning.proofs.Facts.{sound-facts, settings-facts}
-use Rattle.words.specs.Places.{boxWords, word, lengthsBelow, placeOf, tagOf}
+use Rattle.words.specs.Places.{boxWords, word, lengthsBelow, placeOf, tagOf, classesAt, factorsAt, rowCountAt, rowsAt, lengthsAt, packetsAt}
 use Rattle.words.specs.Contents.{contents, settingsAt, turnsAt, queueAt, queuesAt, standingWords, packetWords, turnsOf, byPlace, image, put}
 use Rattle.words.specs.Sound.{zeros, unusedClear, linkClear, untaggedEmpty, wellFormed, soundWords, Fitting}
 use Rattle.words.proofs.PutContents.{put-contents, class-count, row-count, untagged-zero}
 use Rattle.words.proofs.TableReads.{interval-at, classes-at}
 use Rattle.words.proofs.ContentsPut.{Puttable, sound-puttable, length-queue, standing-size, packet-size, length-padded, link-size, length-places, contents-put, put-unused, put-link, put-untagged}
 
-pub lengths-sum : (ws : List ℕ) (p : ℕ) → lengthsBelow ws p ≡ sumBelow (λ i. word ws (211 + i)) p
+pub lengths-sum : (ws : List ℕ) (p : ℕ) → lengthsBelow ws p ≡ sumBelow (λ i. word ws (lengthsAt + i)) p
 unfolding lengthsBelow sumBelow
 lengths-sum ws zero = refl
 lengths-sum ws (suc p) = rw (lengths-sum ws p)
@@ -32,7 +33,7 @@ unfolding waiting contents queuesAt placeOf
 waiting-count ws e h =
     (let t = turnsAt ws in
     let r = largestFactor (settingsAt ws) in
-    let f : ℕ → ℕ = λ i. word ws (211 + i) in
+    let f : ℕ → ℕ = λ i. word ws (lengthsAt + i) in
     let g : ℕ → ℕ = λ k. f (placeOf t k) in
     let n : suc r + (63 - r) ≡ 64 = omega arith in
     lengths-sum ws 64 ∙ sym (sumBelow-turned f 64 t (omega arith)) ∙ ap (sumBelow g) (sym n) ∙
@@ -55,7 +56,7 @@ places-count box h =
     sym (length-flatten (λ k. getD qs k []) (length qs)) ∙ ap (λ l. length (flatten l)) (series-self qs []))
 
 -- the words that contents take
-pub image-size : (box : Box) → Puttable box → length (image box) ≡ 275 + 4 * length (waiting box)
+pub image-size : (box : Box) → Puttable box → length (image box) ≡ packetsAt + 4 * length (waiting box)
 unfolding image
 image-size box k =
     (let s1 = length-padded 8 (box .settings .factors) (k .classes) in
@@ -68,20 +69,20 @@ image-size box k =
     simp (length-append, s1, s3, link-size, s6, s7, w) (omega arith))
 
 -- words with contents put into them are as many as before
-pub length-put : (box : Box) (ws : List ℕ) → Puttable box → length (waiting box) ≤ 1024 → 4371 ≤ length ws → length (put box ws) ≡ length ws
+pub length-put : (box : Box) (ws : List ℕ) → Puttable box → length (waiting box) ≤ 1024 → boxWords ≤ length ws → length (put box ws) ≡ length ws
 unfolding put
 length-put box ws k w h =
     (let n = image-size box k in
     rw (length-append (image box) (drop (length (image box)) ws), length-drop (length (image box)) ws) (omega arith))
 
 -- sound contents put into enough words make sound words
-pub sound-put : (box : Box) (ws : List ℕ) → sound box ≡ true → 4371 ≤ length ws → soundWords (put box ws) ≡ true
+pub sound-put : (box : Box) (ws : List ℕ) → sound box ≡ true → boxWords ≤ length ws → soundWords (put box ws) ≡ true
 unfolding soundWords wellFormed
 sound-put box ws e h =
     (let k = sound-puttable box e in
     let f = sound-facts box e in
     let v = put box ws in
-    let n : 4371 ≤ length v = omega (arith, length-put box ws k (f .waiting-most) h) in
+    let n : boxWords ≤ length v = omega (arith, length-put box ws k (f .waiting-most) h) in
     let u = unusedClear v in
     let l = linkClear v in
     and-eq-true-iff (leb boxWords (length v) && u && l && untaggedEmpty v) (sound (contents v)) .1 (
@@ -101,7 +102,7 @@ sound-fitting ws e =
     let b = and-eq-true-iff (leb boxWords (length ws) && unusedClear ws && linkClear ws) (untaggedEmpty ws) .0 (a .0) in
     let c = and-eq-true-iff (leb boxWords (length ws) && unusedClear ws) (linkClear ws) .0 (b .0) in
     let d = and-eq-true-iff (leb boxWords (length ws)) (unusedClear ws) .0 (c .0) in
-    let z = and-eq-true-iff (zeros ws (3 + word ws 2) (8 - word ws 2)) (zeros ws (12 + 6 * word ws 11) (192 - 6 * word ws 11)) .0 (d .1) in
+    let z = and-eq-true-iff (zeros ws (factorsAt + word ws classesAt) (8 - word ws classesAt)) (zeros ws (rowsAt + 6 * word ws rowCountAt) (192 - 6 * word ws rowCountAt)) .0 (d .1) in
     let f = sound-facts (contents ws) (a .1) in
     let s = settings-facts (settingsAt ws) (f .settings-allowed) in
     record {

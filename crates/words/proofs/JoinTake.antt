@@ -7,8 +7,8 @@ use lib.ListN.{length, getD, set, drop, length-set}
 use Rattle.laws.specs.Series.{series, length-series, series-same, series-last}
 use Rattle.meaning.specs.Numbers.{largestFactor}
 use Rattle.meaning.specs.Queues.{joinTail}
-use Rattle.meaning.specs.Box.{Packet}
-use Rattle.words.specs.Places.{word, lengthsBelow, startOf, placeOf}
+use Rattle.meaning.specs.declared.Packet.{Packet}
+use Rattle.words.specs.Places.{word, lengthsBelow, startOf, placeOf, lengthsAt, packetsAt}
 use Rattle.words.specs.Contents.{contents, settingsAt, packetAt, turnsAt, queueAt, queuesAt}
 use Rattle.words.specs.Sound.{Fitting}
 use Rattle.words.specs.Changes.{Become, withQueues, MovedUp, MovedDown, PacketPut}
@@ -29,17 +29,17 @@ tail-series f start n = refl
 
 -- a packet joins
 module _ (ws up placed : List ℕ) (tag : ℕ) (p : Packet) (k : Fitting ws) (tagged : tag ≤ largestFactor (settingsAt ws)) (room : lengthsBelow ws 64 < 1024)
-    (at end v : ℕ) (at-is : at ≡ 275 + 4 * lengthsBelow ws (placeOf (turnsAt ws) tag + 1)) (end-is : end ≡ 275 + 4 * lengthsBelow ws 64)
-    (u : MovedUp ws up at end) (w : PacketPut up placed at p) (v-is : v ≡ word placed (211 + placeOf (turnsAt ws) tag) + 1) where
+    (at end v : ℕ) (at-is : at ≡ packetsAt + 4 * lengthsBelow ws (placeOf (turnsAt ws) tag + 1)) (end-is : end ≡ packetsAt + 4 * lengthsBelow ws 64)
+    (u : MovedUp ws up at end) (w : PacketPut up placed at p) (v-is : v ≡ word placed (lengthsAt + placeOf (turnsAt ws) tag) + 1) where
   place : ℕ
   place = placeOf (turnsAt ws) tag
 
   after : List ℕ
-  after = set placed (211 + place) v
+  after = set placed (lengthsAt + place) v
 
-  stored : (i : ℕ) → 275 ≤ i → word after i ≡ word placed i
+  stored : (i : ℕ) → packetsAt ≤ i → word after i ≡ word placed i
   unfolding after place
-  stored i h = word-other placed (211 + placeOf (turnsAt ws) tag) v i (λ e. omega (arith, place-below (turnsAt ws) tag))
+  stored i h = word-other placed (lengthsAt + placeOf (turnsAt ws) tag) v i (λ e. omega (arith, place-below (turnsAt ws) tag))
 
   joined-shift : Shifted ws after (placeOf (turnsAt ws) tag) 0 1
   unfolding after place
@@ -49,16 +49,16 @@ module _ (ws up placed : List ℕ) (tag : ℕ) (p : Packet) (k : Fitting ws) (ta
       let one : P + 1 ≡ suc P = omega arith in
       let next = ap (lengthsBelow ws) one ∙ lengths-next ws P in
       let s0 = start-is ws P in
-      let s1 = start-is ws (suc P) ∙ ap (λ n. 275 + 4 * n) (lengths-next ws P) in
+      let s1 = start-is ws (suc P) ∙ ap (λ n. packetsAt + 4 * n) (lengths-next ws P) in
       let l : length placed ≡ length ws = w .same-length ∙ u .same-length in
       let same : (i : ℕ) → i < at → word placed i ≡ word ws i = λ i h. w .below i h ∙ u .below i h in
       record {
-        same-length = length-set placed (211 + P) v ∙ l;
-        tables = λ i h q. word-other placed (211 + P) v i q ∙ same i (omega arith);
-        count = (let c = word-same placed (211 + P) v (211 + P) (omega (arith, k .enough)) refl in let d = same (211 + P) (omega arith) in omega arith);
-        before = λ i h q. word-other placed (211 + P) v i (λ e. omega arith) ∙ same i (omega arith);
+        same-length = length-set placed (lengthsAt + P) v ∙ l;
+        tables = λ i h q. word-other placed (lengthsAt + P) v i q ∙ same i (omega arith);
+        count = (let c = word-same placed (lengthsAt + P) v (lengthsAt + P) (omega (arith, k .enough)) refl in let d = same (lengthsAt + P) (omega arith) in omega arith);
+        before = λ i h q. word-other placed (lengthsAt + P) v i (λ e. omega arith) ∙ same i (omega arith);
         later = λ i j a b e.
-            word-other placed (211 + P) v j (λ q. omega arith) ∙ w .above j (omega arith) ∙
+            word-other placed (lengthsAt + P) v j (λ q. omega arith) ∙ w .above j (omega arith) ∙
             (let q : j ≡ i + 4 = omega arith in ap (λ n. word up n) q) ∙ u .moved i (omega arith) (omega arith);
       })
 
@@ -68,8 +68,8 @@ module _ (ws up placed : List ℕ) (tag : ℕ) (p : Packet) (k : Fitting ws) (ta
       (let P = placeOf (turnsAt ws) tag in
       let small = place-below (turnsAt ws) tag in
       let s = joined-shift in
-      let n = word ws (211 + P) in
-      let c : word after (211 + P) ≡ suc n = omega (arith, s .count) in
+      let n = word ws (lengthsAt + P) in
+      let c : word after (lengthsAt + P) ≡ suc n = omega (arith, s .count) in
       let one : P + 1 ≡ suc P = omega arith in
       let next = ap (lengthsBelow ws) one ∙ lengths-next ws P in
       let s0 = start-is ws P in
@@ -83,13 +83,13 @@ module _ (ws up placed : List ℕ) (tag : ℕ) (p : Packet) (k : Fitting ws) (ta
       ap (λ x. series (packetAt ws) 4 (startOf ws P) n ++ (x ∷ []))
       (ap (packetAt after) e ∙ packet-same placed after at at (λ j g. unset (at + j) (omega arith)) ∙ w .packet)))
     where
-      unset : (i : ℕ) → 275 ≤ i → word after i ≡ word placed i
+      unset : (i : ℕ) → packetsAt ≤ i → word after i ≡ word placed i
       unset i h = stored i h
 
-      stays : (i : ℕ) → 275 ≤ i → i < at → word after i ≡ word ws i
+      stays : (i : ℕ) → packetsAt ≤ i → i < at → word after i ≡ word ws i
       stays i h l = stored i h ∙ w .below i l ∙ u .below i l
 
-  pub joined-become : Become ws (set placed (211 + placeOf (turnsAt ws) tag) v) (withQueues (contents ws) (joinTail tag p (contents ws .queues)))
+  pub joined-become : Become ws (set placed (lengthsAt + placeOf (turnsAt ws) tag) v) (withQueues (contents ws) (joinTail tag p (contents ws .queues)))
   unfolding after place
   joined-become =
       (let P = placeOf (turnsAt ws) tag in
@@ -100,22 +100,22 @@ module _ (ws up placed : List ℕ) (tag : ℕ) (p : Packet) (k : Fitting ws) (ta
       join-sets tag p (contents ws .queues) (omega (arith, queue-count ws)) ∙
       ap (λ l. set (contents ws .queues) tag (l ++ (p ∷ []))) (queue-tagged-at ws tag tagged) ∙ ap (set (contents ws .queues) tag) (sym joined-queue) in
       rw q (shifted-become ws after tag 0 1 k tagged s (omega arith) (λ i h.
-      word-other placed (211 + P) v i (λ e. omega arith) ∙ w .above i (omega (arith, lengths-most ws P 64 small, lengths-next ws P, ap (lengthsBelow ws) (one-more P))) ∙ u .above i (omega arith))))
+      word-other placed (lengthsAt + P) v i (λ e. omega arith) ∙ w .above i (omega (arith, lengths-most ws P 64 small, lengths-next ws P, ap (lengthsBelow ws) (one-more P))) ∙ u .above i (omega arith))))
     where
       one-more : (n : ℕ) → n + 1 ≡ suc n
       one-more n = omega arith
 
 -- the head of a queue goes
 module _ (ws down : List ℕ) (tag : ℕ) (k : Fitting ws) (tagged : tag ≤ largestFactor (settingsAt ws))
-    (some-wait : 1 ≤ word ws (211 + placeOf (turnsAt ws) tag))
-    (at end v : ℕ) (at-is : at ≡ 275 + 4 * lengthsBelow ws (placeOf (turnsAt ws) tag)) (end-is : end ≡ 275 + 4 * lengthsBelow ws 64)
-    (u : MovedDown ws down at end) (v-is : v + 1 ≡ word down (211 + placeOf (turnsAt ws) tag)) where
+    (some-wait : 1 ≤ word ws (lengthsAt + placeOf (turnsAt ws) tag))
+    (at end v : ℕ) (at-is : at ≡ packetsAt + 4 * lengthsBelow ws (placeOf (turnsAt ws) tag)) (end-is : end ≡ packetsAt + 4 * lengthsBelow ws 64)
+    (u : MovedDown ws down at end) (v-is : v + 1 ≡ word down (lengthsAt + placeOf (turnsAt ws) tag)) where
   beheaded : List ℕ
-  beheaded = set down (211 + placeOf (turnsAt ws) tag) v
+  beheaded = set down (lengthsAt + placeOf (turnsAt ws) tag) v
 
-  unstored : (i : ℕ) → 275 ≤ i → word beheaded i ≡ word down i
+  unstored : (i : ℕ) → packetsAt ≤ i → word beheaded i ≡ word down i
   unfolding beheaded
-  unstored i h = word-other down (211 + placeOf (turnsAt ws) tag) v i (λ e. omega (arith, place-below (turnsAt ws) tag))
+  unstored i h = word-other down (lengthsAt + placeOf (turnsAt ws) tag) v i (λ e. omega (arith, place-below (turnsAt ws) tag))
 
   behead-shift : Shifted ws beheaded (placeOf (turnsAt ws) tag) 1 0
   unfolding beheaded
@@ -123,14 +123,14 @@ module _ (ws down : List ℕ) (tag : ℕ) (k : Fitting ws) (tagged : tag ≤ lar
       (let P = placeOf (turnsAt ws) tag in
       let small = place-below (turnsAt ws) tag in
       let s0 = start-is ws P in
-      let s1 = start-is ws (suc P) ∙ ap (λ n. 275 + 4 * n) (lengths-next ws P) in
+      let s1 = start-is ws (suc P) ∙ ap (λ n. packetsAt + 4 * n) (lengths-next ws P) in
       record {
-        same-length = length-set down (211 + P) v ∙ u .same-length;
-        tables = λ i h q. word-other down (211 + P) v i q ∙ u .below i (omega arith);
-        count = (let c = word-same down (211 + P) v (211 + P) (omega (arith, k .enough, u .same-length)) refl in let d = u .below (211 + P) (omega arith) in omega arith);
-        before = λ i h q. word-other down (211 + P) v i (λ e. omega arith) ∙ u .below i (omega arith);
+        same-length = length-set down (lengthsAt + P) v ∙ u .same-length;
+        tables = λ i h q. word-other down (lengthsAt + P) v i q ∙ u .below i (omega arith);
+        count = (let c = word-same down (lengthsAt + P) v (lengthsAt + P) (omega (arith, k .enough, u .same-length)) refl in let d = u .below (lengthsAt + P) (omega arith) in omega arith);
+        before = λ i h q. word-other down (lengthsAt + P) v i (λ e. omega arith) ∙ u .below i (omega arith);
         later = λ i j a b e.
-            word-other down (211 + P) v j (λ q. omega arith) ∙ u .moved j (omega arith) (omega arith) ∙
+            word-other down (lengthsAt + P) v j (λ q. omega arith) ∙ u .moved j (omega arith) (omega arith) ∙
             (let q : j + 4 ≡ i = omega arith in ap (λ n. word ws n) q);
       })
 
@@ -140,8 +140,8 @@ module _ (ws down : List ℕ) (tag : ℕ) (k : Fitting ws) (tagged : tag ≤ lar
       (let P = placeOf (turnsAt ws) tag in
       let small = place-below (turnsAt ws) tag in
       let s = behead-shift in
-      let n = word ws (211 + P) in
-      let c : word beheaded (211 + P) ≡ n - 1 = omega (arith, s .count) in
+      let n = word ws (lengthsAt + P) in
+      let c : word beheaded (lengthsAt + P) ≡ n - 1 = omega (arith, s .count) in
       let m : n ≡ suc (n - 1) = omega arith in
       let s0 = start-is ws P in
       let b = start-same ws beheaded P 1 0 small s in
@@ -153,7 +153,7 @@ module _ (ws down : List ℕ) (tag : ℕ) (k : Fitting ws) (tagged : tag ≤ lar
       (let q : startOf ws P + 4 * i + j + 4 ≡ startOf ws P + 4 + 4 * i + j = omega arith in ap (λ x. word ws x) q))) ∙
       sym (ap (λ x. drop 1 (series (packetAt ws) 4 (startOf ws P) x)) m ∙ tail-series (packetAt ws) (startOf ws P) (n - 1))))
 
-  pub behead-become : Become ws (set down (211 + placeOf (turnsAt ws) tag) v)
+  pub behead-become : Become ws (set down (lengthsAt + placeOf (turnsAt ws) tag) v)
       (withQueues (contents ws) (set (contents ws .queues) tag (drop 1 (getD (contents ws .queues) tag []))))
   unfolding beheaded
   behead-become =

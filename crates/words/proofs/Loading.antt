@@ -10,11 +10,12 @@ use Rattle.laws.specs.Series.{getD-series, every-index, length-series}
 use Rattle.laws.specs.Tests.{every}
 use Rattle.meaning.specs.Numbers.{largestFactor}
 use Rattle.meaning.specs.Queues.{lowestHead, withoutLowestHead}
-use Rattle.meaning.specs.Box.{Box, Packet, Link, free, carries, packetKept, waiting}
+use Rattle.meaning.specs.declared.Packet.{Packet}
+use Rattle.meaning.specs.Box.{Box, Link, free, carries, packetKept, waiting}
 use Rattle.meaning.specs.Step.{loaded, linkTaken, queuesTaken}
 use Rattle.meaning.proofs.Facts.{packet-facts}
-use Rattle.words.specs.Places.{word, startOf, placeOf}
-use Rattle.words.specs.Contents.{contents, settingsAt, packetAt, linkOf, turnsAt, queueAt, queuesAt}
+use Rattle.words.specs.Places.{word, lengthsBelow, startOf, placeOf, leftAt, linkAt, lengthsAt, packetsAt}
+use Rattle.words.specs.Contents.{contents, settingsAt, packetAt, noPacket, linkOf, turnsAt, queueAt, queuesAt}
 use Rattle.words.specs.Sound.{Fitting, soundWords}
 use Rattle.words.specs.Changes.{Become, withQueues, withLink, loadedBox, lowestTag}
 use Rattle.words.proofs.Rotation.{place-below}
@@ -27,42 +28,38 @@ use Rattle.words.proofs.QueueLaws.{take-sets, take-none, take-head}
 use Rattle.words.proofs.Shift.{start-is}
 use Rattle.words.proofs.SmallChanges.{become-then}
 
-pub link-free : (ws : List ℕ) → word ws 206 ≡ 0 → contents ws .link ≡ free
+pub link-free : (ws : List ℕ) → word ws leftAt ≡ 0 → contents ws .link ≡ free
 unfolding contents linkOf
-link-free ws e = ap (λ n. linkOf n (packetAt ws 207)) e
+link-free ws e = ap (λ n. linkOf n (packetAt ws linkAt)) e
 
-pub link-busy : (ws : List ℕ) → (word ws 206 ≡ 0 → ⊥) → contents ws .link ≡ carries (packetAt ws 207) (word ws 206)
+pub link-busy : (ws : List ℕ) → (word ws leftAt ≡ 0 → ⊥) → contents ws .link ≡ carries (packetAt ws linkAt) (word ws leftAt)
 unfolding contents
-link-busy ws e = link-carries (word ws 206) (packetAt ws 207) (omega arith)
+link-busy ws e = link-carries (word ws leftAt) (packetAt ws linkAt) (omega arith)
 
 tags : (ws : List ℕ) → length (contents ws .queues) ≡ suc (largestFactor (settingsAt ws))
 unfolding contents queuesAt
 tags ws = length-series (λ k. queueAt ws (placeOf (turnsAt ws) k)) 1 0 (suc (largestFactor (settingsAt ws)))
 
-noPacket : Packet
-noPacket = record { serial = 0; connection = 0; units = 0; arrival = 0 }
-
 -- the head of a queue in sound words
 pub record Head (ws : List ℕ) (tag : ℕ) : Type 0 where
   pub fitting : Fitting ws
-  pub waits : 1 ≤ word ws (211 + placeOf (turnsAt ws) tag)
-  pub units : 1 ≤ word ws (startOf ws (placeOf (turnsAt ws) tag) + 2)
+  pub waits : 1 ≤ word ws (lengthsAt + placeOf (turnsAt ws) tag)
+  pub units : 1 ≤ packetAt ws (startOf ws (placeOf (turnsAt ws) tag)) .units
   pub fits : startOf ws (placeOf (turnsAt ws) tag) + 4 ≤ length ws
 
-head-units : (ws : List ℕ) (at : ℕ) → packetKept (contents ws) (packetAt ws at) ≡ true → 1 ≤ word ws (at + 2)
-unfolding packetAt
+head-units : (ws : List ℕ) (at : ℕ) → packetKept (contents ws) (packetAt ws at) ≡ true → 1 ≤ packetAt ws at .units
 head-units ws at e = packet-facts (contents ws) (packetAt ws at) e .units-least
 
-first-of : (ws : List ℕ) (P : ℕ) → every (packetKept (contents ws)) (queueAt ws P) ≡ true → 1 ≤ word ws (211 + P)
+first-of : (ws : List ℕ) (P : ℕ) → every (packetKept (contents ws)) (queueAt ws P) ≡ true → 1 ≤ word ws (lengthsAt + P)
     → packetKept (contents ws) (packetAt ws (startOf ws P + 4 * 0)) ≡ true
 unfolding queueAt
-first-of ws P e w = every-index (packetKept (contents ws)) (packetAt ws) 4 (startOf ws P) (word ws (211 + P)) e 0 (omega arith)
+first-of ws P e w = every-index (packetKept (contents ws)) (packetAt ws) 4 (startOf ws P) (word ws (lengthsAt + P)) e 0 (omega arith)
 
-first-read : (ws : List ℕ) (P : ℕ) → 1 ≤ word ws (211 + P) → getD (queueAt ws P) 0 noPacket ≡ packetAt ws (startOf ws P)
+first-read : (ws : List ℕ) (P : ℕ) → 1 ≤ word ws (lengthsAt + P) → getD (queueAt ws P) 0 noPacket ≡ packetAt ws (startOf ws P)
 unfolding queueAt
 first-read ws P w =
     (let z : startOf ws P + 4 * 0 ≡ startOf ws P = omega arith in
-    getD-series (packetAt ws) 4 (startOf ws P) (word ws (211 + P)) 0 noPacket (omega arith) ∙ ap (packetAt ws) z)
+    getD-series (packetAt ws) 4 (startOf ws P) (word ws (lengthsAt + P)) 0 noPacket (omega arith) ∙ ap (packetAt ws) z)
 
 taken-link : (l : Link) (qs : List (List Packet)) (p : Packet) → l ≡ free → lowestHead qs ≡ some p → linkTaken l qs ≡ carries p (p .units)
 unfolding linkTaken loaded
@@ -71,10 +68,6 @@ taken-link l qs p e h = ap (λ l. linkTaken l qs) e ∙ ap loaded h
 taken-queues : (l : Link) (qs : List (List Packet)) → l ≡ free → queuesTaken l qs ≡ withoutLowestHead qs
 unfolding queuesTaken
 taken-queues l qs e = ap (λ l. queuesTaken l qs) e
-
-units-read : (ws : List ℕ) (at : ℕ) → carries (packetAt ws at) (packetAt ws at .units) ≡ carries (packetAt ws at) (word ws (at + 2))
-unfolding packetAt
-units-read ws at = refl
 
 loaded-is : (ws : List ℕ) (Q : List (List Packet)) → Q ≡ queuesTaken (contents ws .link) (contents ws .queues)
     → withLink (withQueues (contents ws) Q) (linkTaken (contents ws .link) (contents ws .queues)) ≡ loadedBox (contents ws)
@@ -104,6 +97,11 @@ idle-box box e h =
     (let t = take-none (box .queues) h in
     same-box box (ap (λ l. queuesTaken l (box .queues)) e ∙ t .0) (ap (λ l. linkTaken l (box .queues)) e ∙ ap loaded (t .1) ∙ sym e))
 
+-- The head of the lowest-tagged queue, as the code finds its first word.
+pub head-at : (ws : List ℕ) (tag place below : ℕ) → place ≡ placeOf (turnsAt ws) tag → below ≡ lengthsBelow ws place
+    → packetsAt + 4 * below ≡ startOf ws (placeOf (turnsAt ws) tag)
+head-at ws tag place below q l = ap (λ m. packetsAt + 4 * m) (l ∙ ap (lengthsBelow ws) q) ∙ sym (start-is ws (placeOf (turnsAt ws) tag))
+
 pub head-facts : (ws : List ℕ) (tag : ℕ) → soundWords ws ≡ true → tag ≡ lowestTag (contents ws .queues) → tag ≤ largestFactor (settingsAt ws) → Head ws tag
 head-facts ws tag e t h =
     (let k = sound-fitting ws e in
@@ -111,8 +109,8 @@ head-facts ws tag e t h =
     let small = place-below (turnsAt ws) tag in
     let qs = contents ws .queues in
     let w0 : 1 ≤ length (getD qs (lowestTag qs) []) = take-head qs noPacket (omega (arith, tags ws)) .1 in
-    let w1 : length (getD qs (lowestTag qs) []) ≡ word ws (211 + P) = ap (λ n. length (getD qs n [])) (sym t) ∙ waiting-length ws tag h in
-    let w : 1 ≤ word ws (211 + P) = omega arith in
+    let w1 : length (getD qs (lowestTag qs) []) ≡ word ws (lengthsAt + P) = ap (λ n. length (getD qs n [])) (sym t) ∙ waiting-length ws tag h in
+    let w : 1 ≤ word ws (lengthsAt + P) = omega arith in
     let kept = sound-queues ws e .tagged tag h (omega (arith, k .largest)) .kept in
     let z : startOf ws P + 4 * 0 ≡ startOf ws P = omega arith in
     let p : packetKept (contents ws) (packetAt ws (startOf ws P)) ≡ true =
@@ -125,20 +123,20 @@ head-facts ws tag e t h =
     })
 
 -- a link that carries a packet stays, and so does the box
-pub busy-become : (ws : List ℕ) → Fitting ws → (word ws 206 ≡ 0 → ⊥) → Become ws ws (loadedBox (contents ws))
-busy-become ws k e = unchanged ws k (carried-box (contents ws) (packetAt ws 207) (word ws 206) (link-busy ws e))
+pub busy-become : (ws : List ℕ) → Fitting ws → (word ws leftAt ≡ 0 → ⊥) → Become ws ws (loadedBox (contents ws))
+busy-become ws k e = unchanged ws k (carried-box (contents ws) (packetAt ws linkAt) (word ws leftAt) (link-busy ws e))
 
 -- where nothing waits the box stays
-pub idle-become : (ws : List ℕ) → Fitting ws → word ws 206 ≡ 0 → largestFactor (settingsAt ws) < lowestTag (contents ws .queues) → Become ws ws (loadedBox (contents ws))
+pub idle-become : (ws : List ℕ) → Fitting ws → word ws leftAt ≡ 0 → largestFactor (settingsAt ws) < lowestTag (contents ws .queues) → Become ws ws (loadedBox (contents ws))
 idle-become ws k e h = unchanged ws k (idle-box (contents ws) (link-free ws e) (omega (arith, tags ws)))
 
 -- behead, then write the link: the box is loaded
-pub loaded-become : (ws mid after : List ℕ) (tag at : ℕ) → soundWords ws ≡ true → tag ≡ lowestTag (contents ws .queues)
-    → tag ≤ largestFactor (settingsAt ws) → word ws 206 ≡ 0 → at ≡ startOf ws (placeOf (turnsAt ws) tag)
+pub loaded-become : (ws mid after : List ℕ) (tag : ℕ) (p : Packet) → soundWords ws ≡ true → tag ≡ lowestTag (contents ws .queues)
+    → tag ≤ largestFactor (settingsAt ws) → word ws leftAt ≡ 0 → p ≡ packetAt ws (startOf ws (placeOf (turnsAt ws) tag))
     → Become ws mid (withQueues (contents ws) (set (contents ws .queues) tag (drop 1 (getD (contents ws .queues) tag []))))
-    → Become mid after (withLink (contents mid) (linkOf (word ws (at + 2)) (packetAt ws at)))
+    → Become mid after (withLink (contents mid) (linkOf (p .units) p))
     → Become ws after (loadedBox (contents ws))
-loaded-become ws mid after tag at e t h f a b c =
+loaded-become ws mid after tag p e t h f a b c =
     (let qs = contents ws .queues in
     let P = placeOf (turnsAt ws) tag in
     let k = head-facts ws tag e t h in
@@ -146,14 +144,13 @@ loaded-become ws mid after tag at e t h f a b c =
     let free-link = link-free ws f in
     let Q = set qs tag (drop 1 (getD qs tag [])) in
     let q : withoutLowestHead qs ≡ Q = take-sets qs (omega arith) ∙ ap (λ n. set qs n (drop 1 (getD qs n []))) (sym t) in
-    let u : 1 ≤ word ws (at + 2) = rw a (k .units) in
-    let head : lowestHead qs ≡ some (packetAt ws at) =
+    let u : 1 ≤ p .units = rw a (k .units) in
+    let head : lowestHead qs ≡ some p =
     take-head qs noPacket (omega arith) .0 ∙ ap (λ n. some (getD (getD qs n []) 0 noPacket)) (sym t) ∙
-    ap (λ l. some (getD l 0 noPacket)) (queue-tagged-at ws tag h) ∙ ap some (first-read ws P (k .waits)) ∙ ap (λ i. some (packetAt ws i)) (sym a) in
-    let l : linkOf (word ws (at + 2)) (packetAt ws at) ≡ linkTaken (contents ws .link) qs =
-    link-carries (word ws (at + 2)) (packetAt ws at) u ∙ sym (taken-link (contents ws .link) qs (packetAt ws at) free-link head ∙ units-read ws at) in
-    let whole : withLink (contents mid) (linkOf (word ws (at + 2)) (packetAt ws at)) ≡ loadedBox (contents ws) =
-    ap (λ x. withLink x (linkOf (word ws (at + 2)) (packetAt ws at))) (b .stands-for) ∙ ap (withLink (withQueues (contents ws) Q)) l ∙
+    ap (λ l. some (getD l 0 noPacket)) (queue-tagged-at ws tag h) ∙ ap some (first-read ws P (k .waits) ∙ sym a) in
+    let l : linkOf (p .units) p ≡ linkTaken (contents ws .link) qs = link-carries (p .units) p u ∙ sym (taken-link (contents ws .link) qs p free-link head) in
+    let whole : withLink (contents mid) (linkOf (p .units) p) ≡ loadedBox (contents ws) =
+    ap (λ x. withLink x (linkOf (p .units) p)) (b .stands-for) ∙ ap (withLink (withQueues (contents ws) Q)) l ∙
     loaded-is ws Q (sym (taken-queues (contents ws .link) qs free-link ∙ q)) in
     become-then ws mid after (withQueues (contents ws) Q) (loadedBox (contents ws)) b (rw whole at c)
     (same-waiting ws Q (sym (taken-queues (contents ws .link) qs free-link ∙ q))))

@@ -10,10 +10,11 @@ use Rattle.laws.specs.Series.{series, series-same, append-same}
 use Rattle.meaning.specs.Numbers.{Settings, largestFactor, risingAbove, settingsAllowed}
 use Rattle.meaning.specs.Queues.{emptyQueues}
 use Rattle.laws.specs.Tests.{every}
-use Rattle.meaning.specs.Box.{Box, Packet, connections, waiting, packets, onLink, packetKept, inTheirQueues, serialsRise, linkKept, allowancesKept, sound}
+use Rattle.meaning.specs.declared.Packet.{Packet}
+use Rattle.meaning.specs.Box.{Box, connections, waiting, packets, onLink, packetKept, inTheirQueues, serialsRise, linkKept, allowancesKept, sound}
 use Rattle.meaning.proofs.Facts.{sound-test}
 use Rattle.meaning.specs.Calls.{newBox}
-use Rattle.words.specs.Places.{tagOf}
+use Rattle.words.specs.Places.{tagOf, intervalAt, cycleAt, classesAt, factorsAt, rowCountAt, packetsAt}
 use Rattle.words.specs.Contents.{padded, packetWords, linkWords, turnsOf, byPlace, image, put}
 use Rattle.words.specs.Opening.{asked, cleared}
 
@@ -55,14 +56,14 @@ unfolding series flatten
 no-words = refl
 
 tail-zeros : (k : ℕ) → k ≤ 8
-    → replicate (8 - k) 0 ++ ((0 ∷ []) ++ (replicate 192 0 ++ ((0 ∷ 0 ∷ []) ++ ((0 ∷ 0 ∷ 0 ∷ 0 ∷ 0 ∷ []) ++ (replicate 64 0 ++ []))))) ≡ replicate {A = ℕ} (272 - k) 0
+    → replicate (8 - k) 0 ++ ((0 ∷ []) ++ (replicate 192 0 ++ ((0 ∷ 0 ∷ []) ++ ((0 ∷ 0 ∷ 0 ∷ 0 ∷ 0 ∷ []) ++ (replicate 64 0 ++ []))))) ≡ replicate {A = ℕ} ((packetsAt - factorsAt) - k) 0
 tail-zeros k h =
-    (let e : 8 - k + 264 ≡ 272 - k = omega arith in
-    replicate-append-replicate {A = ℕ} (8 - k) 264 0 ∙ ap (λ n. replicate n 0) e)
+    (let e : 8 - k + (packetsAt - rowCountAt) ≡ (packetsAt - factorsAt) - k = omega arith in
+    replicate-append-replicate {A = ℕ} (8 - k) (packetsAt - rowCountAt) 0 ∙ ap (λ n. replicate n 0) e)
 
 -- the words of a new box: its settings, then zeros
 image-new : (D M : ℕ) (fs : List ℕ) → length fs ≤ 8
-    → image (newBox (asked D M fs)) ≡ (D ∷ M ∷ length fs ∷ []) ++ (fs ++ replicate (272 - length fs) 0)
+    → image (newBox (asked D M fs)) ≡ (D ∷ M ∷ length fs ∷ []) ++ (fs ++ replicate ((packetsAt - factorsAt) - length fs) 0)
 unfolding image newBox padded linkWords flatten
 image-new D M fs h =
     (let places = places-new (asked D M fs) in
@@ -76,27 +77,27 @@ image-new D M fs h =
     ap (λ w. replicate (8 - length fs) 0 ++ rest (replicate 64 0) w) b ∙ tail-zeros (length fs) h)))
 
 -- what opening writes is a new box
-pub opening-writes : (D M : ℕ) (fs ws cleared-words : List ℕ) → length fs ≤ 8 → cleared-words ≡ cleared 275 ws
-    → take 3 (set (set (set cleared-words 0 D) 1 M) 2 (length fs)) ++ fs ++ drop (3 + length fs) (set (set (set cleared-words 0 D) 1 M) 2 (length fs))
+pub opening-writes : (D M : ℕ) (fs ws cleared-words : List ℕ) → length fs ≤ 8 → cleared-words ≡ cleared packetsAt ws
+    → take factorsAt (set (set (set cleared-words intervalAt D) cycleAt M) classesAt (length fs)) ++ fs ++ drop (factorsAt + length fs) (set (set (set cleared-words intervalAt D) cycleAt M) classesAt (length fs))
     ≡ put (newBox (asked D M fs)) ws
 unfolding put cleared
 opening-writes D M fs ws l h e =
     (let k = length fs in
-    let R = drop 275 ws in
-    let z : List ℕ = replicate 272 0 in
+    let R = drop packetsAt ws in
+    let z : List ℕ = replicate (packetsAt - factorsAt) 0 in
     let X : List ℕ = D ∷ M ∷ k ∷ (z ++ R) in
-    let x : set (set (set l 0 D) 1 M) 2 k ≡ X = ap (λ t. set (set (set t 0 D) 1 M) 2 k) e in
-    let d : drop (3 + k) X ≡ replicate (272 - k) 0 ++ R =
-    sym (drop-drop k 3 X) ∙ drop-append-le k z R (rw (length-replicate {A = ℕ} 272 0) (omega arith)) ∙ ap (λ t. t ++ R) (drop-zeros k 272 (omega arith)) in
+    let x : set (set (set l intervalAt D) cycleAt M) classesAt k ≡ X = ap (λ t. set (set (set t intervalAt D) cycleAt M) classesAt k) e in
+    let d : drop (factorsAt + k) X ≡ replicate ((packetsAt - factorsAt) - k) 0 ++ R =
+    sym (drop-drop k factorsAt X) ∙ drop-append-le k z R (rw (length-replicate {A = ℕ} (packetsAt - factorsAt) 0) (omega arith)) ∙ ap (λ t. t ++ R) (drop-zeros k (packetsAt - factorsAt) (omega arith)) in
     let i = image-new D M fs h in
-    let n : length (image (newBox (asked D M fs))) ≡ 275 = ap length i ∙ size D M fs h in
-    ap (λ t. take 3 t ++ fs ++ drop (3 + k) t) x ∙ ap (λ t. (D ∷ M ∷ k ∷ []) ++ fs ++ t) d ∙
-    append-assoc (D ∷ M ∷ k ∷ []) fs (replicate (272 - k) 0 ++ R) ∙
-    ap (λ t. (D ∷ M ∷ k ∷ []) ++ t) (sym (append-assoc fs (replicate (272 - k) 0) R)) ∙
+    let n : length (image (newBox (asked D M fs))) ≡ packetsAt = ap length i ∙ size D M fs h in
+    ap (λ t. take factorsAt t ++ fs ++ drop (factorsAt + k) t) x ∙ ap (λ t. (D ∷ M ∷ k ∷ []) ++ fs ++ t) d ∙
+    append-assoc (D ∷ M ∷ k ∷ []) fs (replicate ((packetsAt - factorsAt) - k) 0 ++ R) ∙
+    ap (λ t. (D ∷ M ∷ k ∷ []) ++ t) (sym (append-assoc fs (replicate ((packetsAt - factorsAt) - k) 0) R)) ∙
     append-same (sym i) (ap (λ m. drop m ws) (sym n)))
   where
-    size : (D M : ℕ) (fs : List ℕ) → length fs ≤ 8 → length ((D ∷ M ∷ length fs ∷ []) ++ (fs ++ replicate (272 - length fs) 0)) ≡ 275
-    size D M fs h = rw (length-append fs (replicate (272 - length fs) 0), length-replicate {A = ℕ} (272 - length fs) 0) (omega arith)
+    size : (D M : ℕ) (fs : List ℕ) → length fs ≤ 8 → length ((D ∷ M ∷ length fs ∷ []) ++ (fs ++ replicate ((packetsAt - factorsAt) - length fs) 0)) ≡ packetsAt
+    size D M fs h = rw (length-append fs (replicate ((packetsAt - factorsAt) - length fs) 0), length-replicate {A = ℕ} ((packetsAt - factorsAt) - length fs) 0) (omega arith)
 
 no-packets : (n : ℕ) → flatten (replicate {A = List Packet} n []) ≡ []
 unfolding flatten

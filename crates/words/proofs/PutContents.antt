@@ -9,8 +9,9 @@ use lib.ListN.{length, getD, drop, take-append-drop, getD-replicate, List·getD-
 use borrow.Author.Tests.{eq-eqb}
 use Rattle.laws.specs.Series.{series, length-series, getD-series, series-append, series-last, series-same, series-take, series-zeros, map-series, map-append, flatten-append, chunks-words, append-same}
 use Rattle.meaning.specs.Numbers.{largestFactor}
-use Rattle.meaning.specs.Box.{Box, Packet}
-use Rattle.words.specs.Places.{word, startOf, lengthsBelow, placeOf, tagOf}
+use Rattle.meaning.specs.declared.Packet.{Packet}
+use Rattle.meaning.specs.Box.{Box}
+use Rattle.words.specs.Places.{word, startOf, lengthsBelow, placeOf, tagOf, intervalAt, cycleAt, classesAt, factorsAt, rowCountAt, rowsAt, counterAt, acceptedAt, leftAt, linkAt, lengthsAt, packetsAt}
 use Rattle.words.specs.Contents.{contents, settingsAt, standingAt, standings, packetAt, linkOf, turnsAt, queueAt, queuesAt, padded, standingWords, packetWords, linkWords, turnsOf, byPlace, image, put}
 use Rattle.words.specs.Sound.{zeros, linkClear, emptyFrom, untaggedEmpty, Fitting}
 use Rattle.words.proofs.Rotation.{tag-below, place-of-tag}
@@ -44,40 +45,40 @@ packet-words ws i =
     let b : i + 2 + 1 ≡ i + 3 = omega arith in
     rw (a, b))
 
-link-words-of : (ws : List ℕ) (n : ℕ) → word ws 206 ≡ n → (n ≡ 0 → zeros ws 207 4 ≡ true)
-    → linkWords (linkOf n (packetAt ws 207)) ≡ series (λ j. word ws j) 1 206 5
+link-words-of : (ws : List ℕ) (n : ℕ) → word ws leftAt ≡ n → (n ≡ 0 → zeros ws linkAt 4 ≡ true)
+    → linkWords (linkOf n (packetAt ws linkAt)) ≡ series (λ j. word ws j) 1 leftAt 5
 unfolding linkWords linkOf series zeros
-link-words-of ws zero q z = rw q (ap (λ l. 0 ∷ l) (sym (series-zeros (λ j. word ws j) 1 207 4 (z refl))))
-link-words-of ws (suc n) q z = rw q (ap (λ l. suc n ∷ l) (packet-words ws 207))
+link-words-of ws zero q z = rw q (ap (λ l. 0 ∷ l) (sym (series-zeros (λ j. word ws j) 1 linkAt 4 (z refl))))
+link-words-of ws (suc n) q z = rw q (ap (λ l. suc n ∷ l) (packet-words ws linkAt))
 
-pub link-words : (ws : List ℕ) → linkClear ws ≡ true → linkWords (linkOf (word ws 206) (packetAt ws 207)) ≡ series (λ j. word ws j) 1 206 5
+pub link-words : (ws : List ℕ) → linkClear ws ≡ true → linkWords (linkOf (word ws leftAt) (packetAt ws linkAt)) ≡ series (λ j. word ws j) 1 leftAt 5
 unfolding linkClear
 link-words ws e =
-    link-words-of ws (word ws 206) refl (λ q. sym (ap (λ b. cond b (zeros ws 207 4) true) (eq-eqb (word ws 206) 0 q)) ∙ e)
+    link-words-of ws (word ws leftAt) refl (λ q. sym (ap (λ b. cond b (zeros ws linkAt 4) true) (eq-eqb (word ws leftAt) 0 q)) ∙ e)
 
 -- the queue at a place of no tag is empty
-pub queue-untagged : (ws : List ℕ) (p : ℕ) → word ws (211 + p) ≡ 0 → queueAt ws p ≡ []
+pub queue-untagged : (ws : List ℕ) (p : ℕ) → word ws (lengthsAt + p) ≡ 0 → queueAt ws p ≡ []
 unfolding queueAt series
 queue-untagged ws p e = rw e
 
-start-at : (ws : List ℕ) (p : ℕ) → 275 + 1 * (4 * lengthsBelow ws p) ≡ startOf ws p
+start-at : (ws : List ℕ) (p : ℕ) → packetsAt + 1 * (4 * lengthsBelow ws p) ≡ startOf ws p
 unfolding startOf
 start-at ws p = omega arith
 
-queue-words : (ws : List ℕ) (p : ℕ) → flatten (map packetWords (queueAt ws p)) ≡ series (λ j. word ws j) 1 (startOf ws p) (4 * word ws (211 + p))
+queue-words : (ws : List ℕ) (p : ℕ) → flatten (map packetWords (queueAt ws p)) ≡ series (λ j. word ws j) 1 (startOf ws p) (4 * word ws (lengthsAt + p))
 unfolding queueAt
-queue-words ws p = chunks-words (packetAt ws) packetWords (λ j. word ws j) 4 (packet-words ws) (startOf ws p) (word ws (211 + p))
+queue-words ws p = chunks-words (packetAt ws) packetWords (λ j. word ws j) 4 (packet-words ws) (startOf ws p) (word ws (lengthsAt + p))
 
 queues-next : (ws : List ℕ) (p : ℕ)
-    → flatten (map packetWords (flatten (series (queueAt ws) 1 0 p))) ≡ series (λ j. word ws j) 1 275 (4 * lengthsBelow ws p)
-    → flatten (map packetWords (flatten (series (queueAt ws) 1 0 (suc p)))) ≡ series (λ j. word ws j) 1 275 (4 * (lengthsBelow ws p + word ws (211 + p)))
+    → flatten (map packetWords (flatten (series (queueAt ws) 1 0 p))) ≡ series (λ j. word ws j) 1 packetsAt (4 * lengthsBelow ws p)
+    → flatten (map packetWords (flatten (series (queueAt ws) 1 0 (suc p)))) ≡ series (λ j. word ws j) 1 packetsAt (4 * (lengthsBelow ws p + word ws (lengthsAt + p)))
 unfolding flatten
 queues-next ws p h =
     (let w : ℕ → ℕ = λ j. word ws j in
     let qs = series (queueAt ws) 1 0 p in
     let e : 0 + 1 * p ≡ p = omega arith in
     let n = lengthsBelow ws p in
-    let m = word ws (211 + p) in
+    let m = word ws (lengthsAt + p) in
     let k : 4 * n + 4 * m ≡ 4 * (n + m) = omega arith in
     rw (
       series-last (queueAt ws) 1 0 p,
@@ -89,22 +90,22 @@ queues-next ws p h =
       h,
       queue-words ws p,
     )
-    (sym (sym (ap (λ x. series w 1 275 x) k) ∙ series-append w 1 275 (4 * n) (4 * m) ∙
-    ap (λ x. series w 1 275 (4 * n) ++ series w 1 x (4 * m)) (start-at ws p))))
+    (sym (sym (ap (λ x. series w 1 packetsAt x) k) ∙ series-append w 1 packetsAt (4 * n) (4 * m) ∙
+    ap (λ x. series w 1 packetsAt (4 * n) ++ series w 1 x (4 * m)) (start-at ws p))))
 
 -- the words of the queues at the places below p, one after another
 pub queues-words : (ws : List ℕ) (p : ℕ)
-    → flatten (map packetWords (flatten (series (queueAt ws) 1 0 p))) ≡ series (λ j. word ws j) 1 275 (4 * lengthsBelow ws p)
+    → flatten (map packetWords (flatten (series (queueAt ws) 1 0 p))) ≡ series (λ j. word ws j) 1 packetsAt (4 * lengthsBelow ws p)
 unfolding series lengthsBelow flatten
 queues-words ws zero = refl
 queues-words ws (suc p) = queues-next ws p (queues-words ws p)
 
 -- every untagged number has length 0
 pub untagged-zero : (ws : List ℕ) → untaggedEmpty ws ≡ true → (k : ℕ) → largestFactor (settingsAt ws) < k → k < 64
-    → word ws (211 + placeOf (turnsAt ws) k) ≡ 0
+    → word ws (lengthsAt + placeOf (turnsAt ws) k) ≡ 0
 unfolding untaggedEmpty emptyFrom
 untagged-zero ws e k h l =
-    (let f : ℕ → ℕ = λ k. word ws (211 + placeOf (turnsAt ws) k) in
+    (let f : ℕ → ℕ = λ k. word ws (lengthsAt + placeOf (turnsAt ws) k) in
     let r = largestFactor (settingsAt ws) in
     let q : suc r + 1 * (k - suc r) ≡ k = omega arith in
     sym (ap f q) ∙ sym (getD-series f 1 (suc r) (63 - r) (k - suc r) 0 (omega arith)) ∙
@@ -124,7 +125,7 @@ queue-tagged ws e h p l =
       | no k ↦
           List·getD-eq-default (series f 1 0 (suc r)) [] (rw (length-series f 1 0 (suc r)) (omega arith)) ∙
           sym (queue-untagged ws p
-          (sym (ap (λ x. word ws (211 + x)) (place-of-tag (turnsAt ws) p l)) ∙ untagged-zero ws e t (omega arith) (tag-below (turnsAt ws) p)))
+          (sym (ap (λ x. word ws (lengthsAt + x)) (place-of-tag (turnsAt ws) p l)) ∙ untagged-zero ws e t (omega arith) (tag-below (turnsAt ws) p)))
     ])
 
 -- the queues by their places are those in the words
@@ -136,62 +137,62 @@ by-place ws e h =
 
 -- where the tables end and the packets start: each part's words, one after another
 parts : (f : ℕ → ℕ) (m : ℕ)
-    → series f 1 0 3 ++ (series f 1 3 8 ++ (series f 1 11 1 ++ (series f 1 12 192 ++ (series f 1 204 2 ++ (series f 1 206 5 ++ (series f 1 211 64 ++ series f 1 275 m))))))
-    ≡ series f 1 0 (275 + m)
+    → series f 1 0 3 ++ (series f 1 factorsAt 8 ++ (series f 1 rowCountAt 1 ++ (series f 1 rowsAt 192 ++ (series f 1 counterAt 2 ++ (series f 1 leftAt 5 ++ (series f 1 lengthsAt 64 ++ series f 1 packetsAt m))))))
+    ≡ series f 1 0 (packetsAt + m)
 parts f m =
-    (let e : 275 + m ≡ 3 + (8 + (1 + (192 + (2 + (5 + (64 + m)))))) = omega arith in
+    (let e : packetsAt + m ≡ factorsAt + (8 + (1 + (192 + (2 + (5 + (64 + m)))))) = omega arith in
     sym (ap (λ n. series f 1 0 n) e ∙ series-append f 1 0 3 (8 + (1 + (192 + (2 + (5 + (64 + m)))))) ∙
-    ap (λ l. series f 1 0 3 ++ l) (series-append f 1 3 8 (1 + (192 + (2 + (5 + (64 + m))))) ∙
-    ap (λ l. series f 1 3 8 ++ l) (series-append f 1 11 1 (192 + (2 + (5 + (64 + m)))) ∙
-    ap (λ l. series f 1 11 1 ++ l) (series-append f 1 12 192 (2 + (5 + (64 + m))) ∙
-    ap (λ l. series f 1 12 192 ++ l) (series-append f 1 204 2 (5 + (64 + m)) ∙
-    ap (λ l. series f 1 204 2 ++ l) (series-append f 1 206 5 (64 + m) ∙
-    ap (λ l. series f 1 206 5 ++ l) (series-append f 1 211 64 m))))))))
+    ap (λ l. series f 1 0 3 ++ l) (series-append f 1 factorsAt 8 (1 + (192 + (2 + (5 + (64 + m))))) ∙
+    ap (λ l. series f 1 factorsAt 8 ++ l) (series-append f 1 rowCountAt 1 (192 + (2 + (5 + (64 + m)))) ∙
+    ap (λ l. series f 1 rowCountAt 1 ++ l) (series-append f 1 rowsAt 192 (2 + (5 + (64 + m))) ∙
+    ap (λ l. series f 1 rowsAt 192 ++ l) (series-append f 1 counterAt 2 (5 + (64 + m)) ∙
+    ap (λ l. series f 1 counterAt 2 ++ l) (series-append f 1 leftAt 5 (64 + m) ∙
+    ap (λ l. series f 1 leftAt 5 ++ l) (series-append f 1 lengthsAt 64 m))))))))
 
-lengths-words : (ws : List ℕ) → map length (series (queueAt ws) 1 0 64) ≡ series (λ j. word ws j) 1 211 64
+lengths-words : (ws : List ℕ) → map length (series (queueAt ws) 1 0 64) ≡ series (λ j. word ws j) 1 lengthsAt 64
 unfolding queueAt
 lengths-words ws =
     map-series length (queueAt ws) 1 0 64 ∙
-    series-same (λ p. length (queueAt ws p)) (λ j. word ws j) 1 0 211 64 (λ i l.
-    (let e : 211 + (0 + 1 * i) ≡ 211 + 1 * i = omega arith in
-    length-series (packetAt ws) 4 (startOf ws (0 + 1 * i)) (word ws (211 + (0 + 1 * i))) ∙ ap (λ x. word ws x) e))
+    series-same (λ p. length (queueAt ws p)) (λ j. word ws j) 1 0 lengthsAt 64 (λ i l.
+    (let e : lengthsAt + (0 + 1 * i) ≡ lengthsAt + 1 * i = omega arith in
+    length-series (packetAt ws) 4 (startOf ws (0 + 1 * i)) (word ws (lengthsAt + (0 + 1 * i))) ∙ ap (λ x. word ws x) e))
 
-rows-words : (ws : List ℕ) → Fitting ws → padded 192 (flatten (map standingWords (standings ws))) ≡ series (λ j. word ws j) 1 12 192
+rows-words : (ws : List ℕ) → Fitting ws → padded 192 (flatten (map standingWords (standings ws))) ≡ series (λ j. word ws j) 1 rowsAt 192
 unfolding standings
 rows-words ws k =
-    rw (chunks-words (standingAt ws) standingWords (λ j. word ws j) 6 (standing-words ws) 12 (word ws 11))
-    (padded-series ws 12 (6 * word ws 11) 192 (omega (arith, k .rows)) (k .rows-clear))
+    rw (chunks-words (standingAt ws) standingWords (λ j. word ws j) 6 (standing-words ws) rowsAt (word ws rowCountAt))
+    (padded-series ws rowsAt (6 * word ws rowCountAt) 192 (omega (arith, k .rows)) (k .rows-clear))
 
-factors-words : (ws : List ℕ) → Fitting ws → padded 8 (settingsAt ws .factors) ≡ series (λ j. word ws j) 1 3 8
+factors-words : (ws : List ℕ) → Fitting ws → padded 8 (settingsAt ws .factors) ≡ series (λ j. word ws j) 1 factorsAt 8
 unfolding settingsAt
-factors-words ws k = padded-series ws 3 (word ws 2) 8 (k .classes) (k .factors-clear)
+factors-words ws k = padded-series ws factorsAt (word ws classesAt) 8 (k .classes) (k .factors-clear)
 
 three-words : (f : ℕ → ℕ) → f 0 ∷ f 1 ∷ f 2 ∷ [] ≡ series f 1 0 3
 unfolding series
 three-words f = refl
 
-one-word : (f : ℕ → ℕ) → f 11 ∷ [] ≡ series f 1 11 1
+one-word : (f : ℕ → ℕ) → f rowCountAt ∷ [] ≡ series f 1 rowCountAt 1
 unfolding series
 one-word f = refl
 
-two-words : (f : ℕ → ℕ) → f 204 ∷ f 205 ∷ [] ≡ series f 1 204 2
+two-words : (f : ℕ → ℕ) → f counterAt ∷ f acceptedAt ∷ [] ≡ series f 1 counterAt 2
 unfolding series
 two-words f = refl
 
-pub class-count : (ws : List ℕ) → length (settingsAt ws .factors) ≡ word ws 2
+pub class-count : (ws : List ℕ) → length (settingsAt ws .factors) ≡ word ws classesAt
 unfolding settingsAt
-class-count ws = length-series (λ i. word ws i) 1 3 (word ws 2)
+class-count ws = length-series (λ i. word ws i) 1 factorsAt (word ws classesAt)
 
-pub row-count : (ws : List ℕ) → length (standings ws) ≡ word ws 11
+pub row-count : (ws : List ℕ) → length (standings ws) ≡ word ws rowCountAt
 unfolding standings
-row-count ws = length-series (standingAt ws) 6 12 (word ws 11)
+row-count ws = length-series (standingAt ws) 6 rowsAt (word ws rowCountAt)
 
 first-words : (ws : List ℕ) → settingsAt ws .interval ∷ settingsAt ws .cycle ∷ length (settingsAt ws .factors) ∷ [] ≡ series (λ j. word ws j) 1 0 3
 unfolding settingsAt
-first-words ws = ap (λ n. word ws 0 ∷ word ws 1 ∷ n ∷ []) (class-count ws) ∙ three-words (λ j. word ws j)
+first-words ws = ap (λ n. word ws intervalAt ∷ word ws cycleAt ∷ n ∷ []) (class-count ws) ∙ three-words (λ j. word ws j)
 
 -- the words of the contents are the first words
-pub image-contents : (ws : List ℕ) → Fitting ws → image (contents ws) ≡ series (λ j. word ws j) 1 0 (275 + 4 * lengthsBelow ws 64)
+pub image-contents : (ws : List ℕ) → Fitting ws → image (contents ws) ≡ series (λ j. word ws j) 1 0 (packetsAt + 4 * lengthsBelow ws 64)
 unfolding image contents
 image-contents ws k =
     (let w : ℕ → ℕ = λ j. word ws j in
@@ -212,23 +213,23 @@ image-contents ws k =
     ) ∙
     parts w (4 * lengthsBelow ws 64))
 
-pub length-image : (ws : List ℕ) → Fitting ws → length (image (contents ws)) ≡ 275 + 4 * lengthsBelow ws 64
-length-image ws k = ap length (image-contents ws k) ∙ length-series (λ j. word ws j) 1 0 (275 + 4 * lengthsBelow ws 64)
+pub length-image : (ws : List ℕ) → Fitting ws → length (image (contents ws)) ≡ packetsAt + 4 * lengthsBelow ws 64
+length-image ws k = ap length (image-contents ws k) ∙ length-series (λ j. word ws j) 1 0 (packetsAt + 4 * lengthsBelow ws 64)
 
 -- well-formed words are those that their own contents put
 pub put-contents : (ws : List ℕ) → Fitting ws → put (contents ws) ws ≡ ws
 unfolding put
 put-contents ws k =
-    (let n = 275 + 4 * lengthsBelow ws 64 in
+    (let n = packetsAt + 4 * lengthsBelow ws 64 in
     append-same (image-contents ws k ∙ series-take ws 0 n (omega (arith, k .total, k .enough))) (ap (λ m. drop m ws) (length-image ws k)) ∙
     take-append-drop n ws)
 
 -- words that stand for the contents and keep the rest are those that the contents put
 pub put-from : (ws other : List ℕ) (box : Box) → Fitting other → contents other ≡ box
-    → drop (275 + 4 * lengthsBelow other 64) other ≡ drop (275 + 4 * lengthsBelow other 64) ws → other ≡ put box ws
+    → drop (packetsAt + 4 * lengthsBelow other 64) other ≡ drop (packetsAt + 4 * lengthsBelow other 64) ws → other ≡ put box ws
 unfolding put
 put-from ws other box k c e =
-    (let n = 275 + 4 * lengthsBelow other 64 in
+    (let n = packetsAt + 4 * lengthsBelow other 64 in
     let l : length (image box) ≡ n = ap (λ b. length (image b)) (sym c) ∙ length-image other k in
     sym (put-contents other k) ∙
     append-same (ap image c) (ap (λ m. drop m other) (length-image other k) ∙ e ∙ ap (λ m. drop m ws) (sym l)))

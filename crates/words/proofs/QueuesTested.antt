@@ -12,8 +12,9 @@ use borrow.Author.Tests.{le-leb, lt-leb, eqb-true, eq-eqb}
 use Rattle.laws.specs.Series.{series}
 use Rattle.laws.specs.Tests.{every, everyBelow-at, everyBelow-all}
 use Rattle.meaning.specs.Numbers.{largestFactor, risingAbove}
-use Rattle.meaning.specs.Box.{Box, Packet, packetKept, rankIn, inTheirQueues}
-use Rattle.words.specs.Places.{word, placeOf, tagOf}
+use Rattle.meaning.specs.declared.Packet.{Packet}
+use Rattle.meaning.specs.Box.{Box, packetKept, rankIn, inTheirQueues}
+use Rattle.words.specs.Places.{word, placeOf, tagOf, lengthsAt}
 use Rattle.words.specs.Contents.{contents, settingsAt, turnsAt, queueAt}
 use Rattle.words.specs.Tested.{packetFits, packetsFit, queueFits, queuesTested}
 use Rattle.words.proofs.Rotation.{place-below, tag-below, tag-of-place, place-of-tag}
@@ -58,7 +59,7 @@ packets-test box rank before (p ∷ q) f =
 pub record QueuesFacts (ws : List ℕ) : Type 0 where
   pub tagged : (k : ℕ) → k ≤ largestFactor (settingsAt ws) → k < 64
       → QueueFacts (contents ws) (turnsAt ws + k) 0 (queueAt ws (placeOf (turnsAt ws) k))
-  pub untagged : (k : ℕ) → largestFactor (settingsAt ws) < k → k < 64 → word ws (211 + placeOf (turnsAt ws) k) ≡ 0
+  pub untagged : (k : ℕ) → largestFactor (settingsAt ws) < k → k < 64 → word ws (lengthsAt + placeOf (turnsAt ws) k) ≡ 0
 
 pub queues-facts : (ws : List ℕ) → queuesTested ws ≡ true → QueuesFacts ws
 unfolding queuesTested queueFits

@@ -7,7 +7,7 @@ use native.Mathlib.Omega.{arith}
 use lib.ListN.{length}
 use Rattle.meaning.specs.Numbers.{classCount}
 use Rattle.meaning.specs.Box.{Box, waiting, sound}
-use Rattle.words.specs.Places.{word, lengthsBelow}
+use Rattle.words.specs.Places.{word, lengthsBelow, intervalAt, cycleAt, classesAt, rowCountAt, counterAt, acceptedAt}
 use Rattle.words.specs.Contents.{contents, settingsAt}
 use Rattle.words.specs.Sound.{Fitting, soundWords}
 use Rattle.words.specs.Changes.{Become}
@@ -15,27 +15,27 @@ use Rattle.words.proofs.PutContents.{class-count, row-count}
 use Rattle.words.proofs.Counts.{waiting-count, sound-put}
 use Rattle.words.proofs.Same.{become-put}
 
-pub interval-word : (ws : List ℕ) → contents ws .settings .interval ≡ word ws 0
+pub interval-word : (ws : List ℕ) → contents ws .settings .interval ≡ word ws intervalAt
 unfolding contents settingsAt
 interval-word ws = refl
 
-pub cycle-word : (ws : List ℕ) → contents ws .settings .cycle ≡ word ws 1
+pub cycle-word : (ws : List ℕ) → contents ws .settings .cycle ≡ word ws cycleAt
 unfolding contents settingsAt
 cycle-word ws = refl
 
-pub classes-word : (ws : List ℕ) → classCount (contents ws .settings) ≡ word ws 2
+pub classes-word : (ws : List ℕ) → classCount (contents ws .settings) ≡ word ws classesAt
 unfolding contents classCount
 classes-word ws = class-count ws
 
-pub standing-word : (ws : List ℕ) → length (contents ws .standing) ≡ word ws 11
+pub standing-word : (ws : List ℕ) → length (contents ws .standing) ≡ word ws rowCountAt
 unfolding contents
 standing-word ws = row-count ws
 
-pub counter-word : (ws : List ℕ) → contents ws .counter ≡ word ws 204
+pub counter-word : (ws : List ℕ) → contents ws .counter ≡ word ws counterAt
 unfolding contents
 counter-word ws = refl
 
-pub accepted-word : (ws : List ℕ) → contents ws .accepted ≡ word ws 205
+pub accepted-word : (ws : List ℕ) → contents ws .accepted ≡ word ws acceptedAt
 unfolding contents
 accepted-word ws = refl
 

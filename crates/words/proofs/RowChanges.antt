@@ -8,9 +8,10 @@ use native.Mathlib.Decide.{decLe}
 use lib.ListN.{length, set, length-set}
 use lib.Dec.{eqb}
 use Rattle.laws.specs.Series.{series, series-same, series-last, series-set, series-unit, every-index, every-all}
-use Rattle.meaning.specs.Box.{Standing, connection}
+use Rattle.meaning.specs.declared.Standing.{Standing}
+use Rattle.meaning.specs.Box.{connection}
 use Rattle.meaning.specs.Calls.{withStanding}
-use Rattle.words.specs.Places.{word}
+use Rattle.words.specs.Places.{word, intervalAt, classesAt, factorsAt, rowCountAt, rowsAt, counterAt, acceptedAt, leftAt, linkAt, lengthsAt}
 use Rattle.words.specs.Contents.{contents, standings, standingAt}
 use Rattle.words.specs.Sound.{zeros, Fitting}
 use Rattle.words.specs.Changes.{Become, RowPut}
@@ -20,23 +21,23 @@ use Rattle.words.proofs.Same.{settings-same, standing-same, packet-same
 
 -- a change of rows alone
 pub rows-become : (ws after : List ℕ) → Fitting ws → length after ≡ length ws
-    → ((i : ℕ) → i < 11 → word after i ≡ word ws i) → ((i : ℕ) → 204 ≤ i → word after i ≡ word ws i)
-    → word after 11 ≤ 32 → zeros after (12 + 6 * word after 11) (192 - 6 * word after 11) ≡ true
+    → ((i : ℕ) → i < rowCountAt → word after i ≡ word ws i) → ((i : ℕ) → counterAt ≤ i → word after i ≡ word ws i)
+    → word after rowCountAt ≤ 32 → zeros after (rowsAt + 6 * word after rowCountAt) (192 - 6 * word after rowCountAt) ≡ true
     → Become ws after (withStanding (contents ws) (standings after))
 unfolding contents withStanding
 rows-become ws after k l near far n z =
     (let s = settings-same ws after (k .classes) near in
-    let t = turns-same ws after (near 0 (omega arith)) (far 204 (omega arith)) in
-    let queue-words : (i : ℕ) → 211 ≤ i → word after i ≡ word ws i = λ i h. far i (omega arith) in
+    let t = turns-same ws after (near intervalAt (omega arith)) (far counterAt (omega arith)) in
+    let queue-words : (i : ℕ) → lengthsAt ≤ i → word after i ≡ word ws i = λ i h. far i (omega arith) in
     let m = lengths-same ws after queue-words 64 in
-    let two = near 2 (omega arith) in
+    let two = near classesAt (omega arith) in
     record {
       fitting = record {
         enough = omega (arith, k .enough);
-        interval = omega (arith, k .interval, near 0 (omega arith));
+        interval = omega (arith, k .interval, near intervalAt (omega arith));
         classes-least = omega (arith, k .classes-least);
         classes = omega (arith, k .classes);
-        factors-clear = rw two (zeros-same ws after (3 + word ws 2) (8 - word ws 2) (λ i a b. near i (omega (arith, k .classes))) ∙ k .factors-clear);
+        factors-clear = rw two (zeros-same ws after (factorsAt + word ws classesAt) (8 - word ws classesAt) (λ i a b. near i (omega (arith, k .classes))) ∙ k .factors-clear);
         rows = n;
         rows-clear = z;
         link-clear = link-clear-same ws after (λ i a b. far i (omega arith)) ∙ k .link-clear;
@@ -45,58 +46,58 @@ rows-become ws after k l near far n z =
         total = omega (arith, k .total);
       };
       stands-for =
-          rw (s, far 204 (omega arith), far 205 (omega arith), far 206 (omega arith), packet-same ws after 207 207 (λ j g. far (207 + j) (omega arith)), queues-same ws after queue-words s t);
+          rw (s, far counterAt (omega arith), far acceptedAt (omega arith), far leftAt (omega arith), packet-same ws after linkAt linkAt (λ j g. far (linkAt + j) (omega arith)), queues-same ws after queue-words s t);
       same-length = l;
       beyond = λ i h. far i (omega arith);
     })
 
-row-is : (ws after : List ℕ) (n next credit : ℕ) → 1 ≤ n → n ≤ word ws 11
-    → word after (6 * (1 + n)) ≡ word ws (6 * (1 + n)) → word after (6 * (1 + n) + 1) ≡ word ws (6 * (1 + n) + 1)
-    → word after (6 * (1 + n) + 2) ≡ word ws (6 * (1 + n) + 2) → word after (6 * (1 + n) + 3) ≡ word ws (6 * (1 + n) + 3)
-    → word after (6 * (1 + n) + 4) ≡ next → word after (6 * (1 + n) + 5) ≡ credit
-    → standingAt after (6 * (1 + n)) ≡ record { asked = connection (contents ws) n; allowance = record { next = next; credit = credit } }
+row-is : (ws after : List ℕ) (n next credit : ℕ) → 1 ≤ n → n ≤ word ws rowCountAt
+    → word after (rowsAt - 6 + 6 * n) ≡ word ws (rowsAt - 6 + 6 * n) → word after ((rowsAt - 6 + 6 * n) + 1) ≡ word ws ((rowsAt - 6 + 6 * n) + 1)
+    → word after ((rowsAt - 6 + 6 * n) + 2) ≡ word ws ((rowsAt - 6 + 6 * n) + 2) → word after ((rowsAt - 6 + 6 * n) + 3) ≡ word ws ((rowsAt - 6 + 6 * n) + 3)
+    → word after ((rowsAt - 6 + 6 * n) + 4) ≡ next → word after ((rowsAt - 6 + 6 * n) + 5) ≡ credit
+    → standingAt after (rowsAt - 6 + 6 * n) ≡ record { asked = connection (contents ws) n; allowance = record { next = next; credit = credit } }
 unfolding standingAt
 row-is ws after n next credit h l a b c d e f = rw (a, b, c, d, e, f, connection-at ws n h l)
 
 -- one row of the connections is another
-one-row : (ws after : List ℕ) (n next credit : ℕ) → 1 ≤ n → n ≤ word ws 11 → word after 11 ≡ word ws 11
-    → word after (6 * (1 + n)) ≡ word ws (6 * (1 + n)) → word after (6 * (1 + n) + 1) ≡ word ws (6 * (1 + n) + 1)
-    → word after (6 * (1 + n) + 2) ≡ word ws (6 * (1 + n) + 2) → word after (6 * (1 + n) + 3) ≡ word ws (6 * (1 + n) + 3)
-    → word after (6 * (1 + n) + 4) ≡ next → word after (6 * (1 + n) + 5) ≡ credit
-    → ((i : ℕ) → i < 6 * (1 + n) → word after i ≡ word ws i) → ((i : ℕ) → 6 * (1 + n) + 6 ≤ i → word after i ≡ word ws i)
+one-row : (ws after : List ℕ) (n next credit : ℕ) → 1 ≤ n → n ≤ word ws rowCountAt → word after rowCountAt ≡ word ws rowCountAt
+    → word after (rowsAt - 6 + 6 * n) ≡ word ws (rowsAt - 6 + 6 * n) → word after ((rowsAt - 6 + 6 * n) + 1) ≡ word ws ((rowsAt - 6 + 6 * n) + 1)
+    → word after ((rowsAt - 6 + 6 * n) + 2) ≡ word ws ((rowsAt - 6 + 6 * n) + 2) → word after ((rowsAt - 6 + 6 * n) + 3) ≡ word ws ((rowsAt - 6 + 6 * n) + 3)
+    → word after ((rowsAt - 6 + 6 * n) + 4) ≡ next → word after ((rowsAt - 6 + 6 * n) + 5) ≡ credit
+    → ((i : ℕ) → i < (rowsAt - 6 + 6 * n) → word after i ≡ word ws i) → ((i : ℕ) → (rowsAt - 6 + 6 * n) + 6 ≤ i → word after i ≡ word ws i)
     → standings after ≡ set (contents ws .standing) (n - 1) (record { asked = connection (contents ws) n; allowance = record { next = next; credit = credit } })
 unfolding standings contents
 one-row ws after n next credit h l m a b c d e f below above =
     (let z = standingAt ws 0 in
-    let F : ℕ → Standing = λ i. standingAt ws (12 + 6 * i) in
-    let G : ℕ → Standing = λ i. standingAt after (12 + 6 * i) in
-    let q : 12 + 6 * (n - 1) ≡ 6 * (1 + n) = omega arith in
-    ap (λ x. series (standingAt after) 6 12 x) m ∙ series-unit (standingAt after) 6 12 (word ws 11) z ∙
-    series-set F G (word ws 11) (n - 1) z (omega arith) (λ i g x.
+    let F : ℕ → Standing = λ i. standingAt ws (rowsAt + 6 * i) in
+    let G : ℕ → Standing = λ i. standingAt after (rowsAt + 6 * i) in
+    let q : rowsAt + 6 * (n - 1) ≡ (rowsAt - 6 + 6 * n) = omega arith in
+    ap (λ x. series (standingAt after) 6 rowsAt x) m ∙ series-unit (standingAt after) 6 rowsAt (word ws rowCountAt) z ∙
+    series-set F G (word ws rowCountAt) (n - 1) z (omega arith) (λ i g x.
     elim (decLe i (n - 1)) [
-      | yes w ↦ standing-same ws after (12 + 6 * i) (λ j u v. below j (omega arith))
-      | no w ↦ standing-same ws after (12 + 6 * i) (λ j u v. above j (omega arith))
+      | yes w ↦ standing-same ws after (rowsAt + 6 * i) (λ j u v. below j (omega arith))
+      | no w ↦ standing-same ws after (rowsAt + 6 * i) (λ j u v. above j (omega arith))
     ]) ∙
-    ap (λ s. set (series F 1 0 (word ws 11)) (n - 1) s) (ap (standingAt after) q ∙ row-is ws after n next credit h l a b c d e f) ∙
-    ap (λ s. set s (n - 1) (record { asked = connection (contents ws) n; allowance = record { next = next; credit = credit } })) (sym (series-unit (standingAt ws) 6 12 (word ws 11) z)))
+    ap (λ s. set (series F 1 0 (word ws rowCountAt)) (n - 1) s) (ap (standingAt after) q ∙ row-is ws after n next credit h l a b c d e f) ∙
+    ap (λ s. set s (n - 1) (record { asked = connection (contents ws) n; allowance = record { next = next; credit = credit } })) (sym (series-unit (standingAt ws) 6 rowsAt (word ws rowCountAt) z)))
 
 -- the allowance of one connection
-pub allowance-become : (ws : List ℕ) (n next credit : ℕ) → Fitting ws → 1 ≤ n → n ≤ word ws 11
-    → Become ws (set (set ws (6 * (1 + n) + 4) next) (6 * (1 + n) + 5) credit)
+pub allowance-become : (ws : List ℕ) (n next credit : ℕ) → Fitting ws → 1 ≤ n → n ≤ word ws rowCountAt
+    → Become ws (set (set ws ((rowsAt - 6 + 6 * n) + 4) next) ((rowsAt - 6 + 6 * n) + 5) credit)
     (withStanding (contents ws) (set (contents ws .standing) (n - 1) (record { asked = connection (contents ws) n; allowance = record { next = next; credit = credit } })))
 allowance-become ws n next credit k h l =
-    (let at = 6 * (1 + n) in
+    (let at = (rowsAt - 6 + 6 * n) in
     let mid = set ws (at + 4) next in
     let after = set mid (at + 5) credit in
     let lm : length mid ≡ length ws = length-set ws (at + 4) next in
     let la : length after ≡ length ws = length-set mid (at + 5) credit ∙ lm in
     let e : (i : ℕ) → (i ≡ at + 4 → ⊥) → (i ≡ at + 5 → ⊥) → word after i ≡ word ws i =
     λ i a b. word-other mid (at + 5) credit i b ∙ word-other ws (at + 4) next i a in
-    let c = e 11 (λ q. omega arith) (λ q. omega arith) in
+    let c = e rowCountAt (λ q. omega arith) (λ q. omega arith) in
     let w4 : word after (at + 4) ≡ next = word-other mid (at + 5) credit (at + 4) (λ q. omega arith) ∙ word-same ws (at + 4) next (at + 4) (omega (arith, k .enough, k .rows)) refl in
     let w5 : word after (at + 5) ≡ credit = word-same mid (at + 5) credit (at + 5) (omega (arith, k .enough, k .rows)) refl in
     let b = rows-become ws after k la (λ i g. e i (λ q. omega arith) (λ q. omega arith)) (λ i g. e i (λ q. omega (arith, k .rows)) (λ q. omega (arith, k .rows)))
-    (omega (arith, k .rows)) (rw c (zeros-same ws after (12 + 6 * word ws 11) (192 - 6 * word ws 11) (λ i x y. e i (λ q. omega arith) (λ q. omega arith)) ∙ k .rows-clear)) in
+    (omega (arith, k .rows)) (rw c (zeros-same ws after (rowsAt + 6 * word ws rowCountAt) (192 - 6 * word ws rowCountAt) (λ i x y. e i (λ q. omega arith) (λ q. omega arith)) ∙ k .rows-clear)) in
     rw (← (one-row ws after n next credit h l c (e at (λ q. omega arith) (λ q. omega arith)) (e (at + 1) (λ q. omega arith) (λ q. omega arith))
     (e (at + 2) (λ q. omega arith) (λ q. omega arith)) (e (at + 3) (λ q. omega arith) (λ q. omega arith)) w4 w5
     (λ i x. e i (λ q. omega arith) (λ q. omega arith)) (λ i x. e i (λ q. omega arith) (λ q. omega arith)))) b)
@@ -152,31 +153,31 @@ zeros-later ws start skip n e =
     (let q : start + skip + 1 * i ≡ start + 1 * (skip + i) = omega arith in
     ap (λ x. eqb (word ws x) 0) q ∙ every-index (λ w. eqb w 0) (λ i. word ws i) 1 start (skip + n) e (skip + i) (omega arith)))
 
-more-rows : (ws after : List ℕ) (s : Standing) → word after 11 ≡ suc (word ws 11)
-    → ((i : ℕ) → 12 ≤ i → i < 12 + 6 * word ws 11 → word after i ≡ word ws i) → standingAt after (12 + 6 * word ws 11) ≡ s
+more-rows : (ws after : List ℕ) (s : Standing) → word after rowCountAt ≡ suc (word ws rowCountAt)
+    → ((i : ℕ) → rowsAt ≤ i → i < rowsAt + 6 * word ws rowCountAt → word after i ≡ word ws i) → standingAt after (rowsAt + 6 * word ws rowCountAt) ≡ s
     → standings after ≡ contents ws .standing ++ (s ∷ [])
 unfolding standings contents
 more-rows ws after s n e r =
-    ap (λ x. series (standingAt after) 6 12 x) n ∙ series-last (standingAt after) 6 12 (word ws 11) ∙
-    ap (λ l. l ++ (standingAt after (12 + 6 * word ws 11) ∷ []))
-    (series-same (standingAt after) (standingAt ws) 6 12 12 (word ws 11) (λ i h. standing-same ws after (12 + 6 * i) (λ j a b. e j (omega arith) (omega arith)))) ∙
-    ap (λ x. series (standingAt ws) 6 12 (word ws 11) ++ (x ∷ [])) r
+    ap (λ x. series (standingAt after) 6 rowsAt x) n ∙ series-last (standingAt after) 6 rowsAt (word ws rowCountAt) ∙
+    ap (λ l. l ++ (standingAt after (rowsAt + 6 * word ws rowCountAt) ∷ []))
+    (series-same (standingAt after) (standingAt ws) 6 rowsAt rowsAt (word ws rowCountAt) (λ i h. standing-same ws after (rowsAt + 6 * i) (λ j a b. e j (omega arith) (omega arith)))) ∙
+    ap (λ x. series (standingAt ws) 6 rowsAt (word ws rowCountAt) ++ (x ∷ [])) r
 
 -- a connection more
-pub append-become : (ws mid : List ℕ) (s : Standing) (at v : ℕ) → Fitting ws → word ws 11 < 32 → at ≡ 12 + 6 * word ws 11 → v ≡ suc (word ws 11)
-    → RowPut ws mid at s → Become ws (set mid 11 v) (withStanding (contents ws) (contents ws .standing ++ (s ∷ [])))
+pub append-become : (ws mid : List ℕ) (s : Standing) (at v : ℕ) → Fitting ws → word ws rowCountAt < 32 → at ≡ rowsAt + 6 * word ws rowCountAt → v ≡ suc (word ws rowCountAt)
+    → RowPut ws mid at s → Become ws (set mid rowCountAt v) (withStanding (contents ws) (contents ws .standing ++ (s ∷ [])))
 append-become ws mid s at v k l a q w =
-    (let after = set mid 11 v in
-    let n = word ws 11 in
-    let e : (i : ℕ) → (i ≡ 11 → ⊥) → word after i ≡ word mid i = λ i h. word-other mid 11 v i h in
-    let c : word after 11 ≡ suc n = word-same mid 11 v 11 (omega (arith, k .enough, w .same-length)) refl ∙ q in
+    (let after = set mid rowCountAt v in
+    let n = word ws rowCountAt in
+    let e : (i : ℕ) → (i ≡ rowCountAt → ⊥) → word after i ≡ word mid i = λ i h. word-other mid rowCountAt v i h in
+    let c : word after rowCountAt ≡ suc n = word-same mid rowCountAt v rowCountAt (omega (arith, k .enough, w .same-length)) refl ∙ q in
     let z0 : 6 + (192 - 6 * suc n) ≡ 192 - 6 * n = omega arith in
-    let z1 : 12 + 6 * n + 6 ≡ 12 + 6 * suc n = omega arith in
-    let z : zeros ws (12 + 6 * suc n) (192 - 6 * suc n) ≡ true =
-    sym (ap (λ x. zeros ws x (192 - 6 * suc n)) z1) ∙ zeros-later ws (12 + 6 * n) 6 (192 - 6 * suc n) (ap (zeros ws (12 + 6 * n)) z0 ∙ k .rows-clear) in
-    let b = rows-become ws after k (length-set mid 11 v ∙ w .same-length) (λ i h. e i (λ x. omega arith) ∙ w .below i (omega arith))
+    let z1 : rowsAt + 6 * n + 6 ≡ rowsAt + 6 * suc n = omega arith in
+    let z : zeros ws (rowsAt + 6 * suc n) (192 - 6 * suc n) ≡ true =
+    sym (ap (λ x. zeros ws x (192 - 6 * suc n)) z1) ∙ zeros-later ws (rowsAt + 6 * n) 6 (192 - 6 * suc n) (ap (zeros ws (rowsAt + 6 * n)) z0 ∙ k .rows-clear) in
+    let b = rows-become ws after k (length-set mid rowCountAt v ∙ w .same-length) (λ i h. e i (λ x. omega arith) ∙ w .below i (omega arith))
     (λ i h. e i (λ x. omega arith) ∙ w .above i (omega arith)) (omega arith)
-    (rw c (zeros-same ws after (12 + 6 * suc n) (192 - 6 * suc n) (λ i x y. e i (λ u. omega arith) ∙ w .above i (omega arith)) ∙ z)) in
-    let r : standingAt after (12 + 6 * n) ≡ s =
-    standing-same mid after (12 + 6 * n) (λ j x y. e j (λ u. omega arith)) ∙ ap (standingAt mid) (sym a) ∙ w .row in
+    (rw c (zeros-same ws after (rowsAt + 6 * suc n) (192 - 6 * suc n) (λ i x y. e i (λ u. omega arith) ∙ w .above i (omega arith)) ∙ z)) in
+    let r : standingAt after (rowsAt + 6 * n) ≡ s =
+    standing-same mid after (rowsAt + 6 * n) (λ j x y. e j (λ u. omega arith)) ∙ ap (standingAt mid) (sym a) ∙ w .row in
     rw (more-rows ws after s c (λ i x y. e i (λ u. omega arith) ∙ w .below i (omega arith)) r) at b)

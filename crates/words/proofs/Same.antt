@@ -11,8 +11,9 @@ use lib.Dec.{eqb}
 use Rattle.laws.specs.Series.{getD-series, series-same}
 use Rattle.laws.specs.Tests.{every}
 use Rattle.meaning.specs.Numbers.{largestFactor}
-use Rattle.meaning.specs.Box.{Box, Packet}
-use Rattle.words.specs.Places.{word, lengthsBelow, startOf, placeOf}
+use Rattle.meaning.specs.declared.Packet.{Packet}
+use Rattle.meaning.specs.Box.{Box}
+use Rattle.words.specs.Places.{word, lengthsBelow, startOf, placeOf, intervalAt, cycleAt, classesAt, factorsAt, rowCountAt, rowsAt, counterAt, leftAt, linkAt, lengthsAt, packetsAt}
 use Rattle.words.specs.Contents.{contents, settingsAt, standings, standingAt, packetAt, turnsAt, queueAt, queuesAt, put}
 use Rattle.words.specs.Sound.{zeros, linkClear, emptyFrom, untaggedEmpty, Fitting}
 use Rattle.words.specs.Changes.{Become}
@@ -29,16 +30,16 @@ queue-tagged-at ws tag h =
     getD-series f 1 0 (suc (largestFactor (settingsAt ws))) tag [] (omega arith) ∙ ap f e)
 
 pub waiting-length : (ws : List ℕ) (tag : ℕ) → tag ≤ largestFactor (settingsAt ws)
-    → length (getD (contents ws .queues) tag []) ≡ word ws (211 + placeOf (turnsAt ws) tag)
+    → length (getD (contents ws .queues) tag []) ≡ word ws (lengthsAt + placeOf (turnsAt ws) tag)
 waiting-length ws tag h = ap length (queue-tagged-at ws tag h) ∙ length-queue ws (placeOf (turnsAt ws) tag)
 
 module _ (ws after : List ℕ) where
-  pub settings-same : word ws 2 ≤ 8 → ((i : ℕ) → i < 11 → word after i ≡ word ws i) → settingsAt after ≡ settingsAt ws
+  pub settings-same : word ws classesAt ≤ 8 → ((i : ℕ) → i < rowCountAt → word after i ≡ word ws i) → settingsAt after ≡ settingsAt ws
   unfolding settingsAt
   settings-same h e =
       (let f : ℕ → ℕ = λ i. word ws i in
       let g : ℕ → ℕ = λ i. word after i in
-      rw (e 0 (omega arith), e 1 (omega arith), e 2 (omega arith), series-same g f 1 3 3 (word ws 2) (λ i l. e (3 + 1 * i) (omega arith))))
+      rw (e intervalAt (omega arith), e cycleAt (omega arith), e classesAt (omega arith), series-same g f 1 factorsAt factorsAt (word ws classesAt) (λ i l. e (factorsAt + 1 * i) (omega arith))))
 
   pub standing-same : (at : ℕ) → ((i : ℕ) → at ≤ i → i < at + 6 → word after i ≡ word ws i) → standingAt after at ≡ standingAt ws at
   unfolding standingAt
@@ -52,12 +53,12 @@ module _ (ws after : List ℕ) where
         e (at + 5) (omega arith) (omega arith),
       )
 
-  pub standings-same : word ws 11 ≤ 32 → ((i : ℕ) → 11 ≤ i → i < 204 → word after i ≡ word ws i) → standings after ≡ standings ws
+  pub standings-same : word ws rowCountAt ≤ 32 → ((i : ℕ) → rowCountAt ≤ i → i < counterAt → word after i ≡ word ws i) → standings after ≡ standings ws
   unfolding standings
   standings-same h e =
-      rw (e 11 (omega arith) (omega arith))
-      (series-same (standingAt after) (standingAt ws) 6 12 12 (word ws 11)
-      (λ i l. standing-same (12 + 6 * i) (λ j a b. e j (omega arith) (omega arith))))
+      rw (e rowCountAt (omega arith) (omega arith))
+      (series-same (standingAt after) (standingAt ws) 6 rowsAt rowsAt (word ws rowCountAt)
+      (λ i l. standing-same (rowsAt + 6 * i) (λ j a b. e j (omega arith) (omega arith))))
 
   pub packet-same : (at other : ℕ) → ((k : ℕ) → k < 4 → word after (at + k) ≡ word ws (other + k)) → packetAt after at ≡ packetAt ws other
   unfolding packetAt
@@ -72,7 +73,7 @@ module _ (ws after : List ℕ) where
   zeros-same start n e =
       ap (every (λ w. eqb w 0)) (series-same (λ i. word after i) (λ i. word ws i) 1 start start n (λ i l. e (start + 1 * i) (omega arith) (omega arith)))
 
-  pub turns-same : word after 0 ≡ word ws 0 → word after 204 ≡ word ws 204 → turnsAt after ≡ turnsAt ws
+  pub turns-same : word after intervalAt ≡ word ws intervalAt → word after counterAt ≡ word ws counterAt → turnsAt after ≡ turnsAt ws
   unfolding turnsAt
   turns-same a b = rw (a, b)
 
@@ -85,48 +86,48 @@ module _ (ws after : List ℕ) where
   pub become-put : (box : Box) → Become ws after box → after ≡ put box ws
   become-put box b =
       put-from ws after box (b .fitting) (b .stands-for)
-      (drop-same (275 + 4 * lengthsBelow after 64) (b .same-length) (b .beyond))
+      (drop-same (packetsAt + 4 * lengthsBelow after 64) (b .same-length) (b .beyond))
 
 -- words whose tables of settings and connections stay, with a clear link and queues in order, are fitting
 pub fitting-kept : (ws after : List ℕ) → Fitting ws → length after ≡ length ws
-    → ((i : ℕ) → i < 204 → word after i ≡ word ws i)
+    → ((i : ℕ) → i < counterAt → word after i ≡ word ws i)
     → linkClear after ≡ true → untaggedEmpty after ≡ true → lengthsBelow after 64 ≤ 1024 → Fitting after
 fitting-kept ws after k l e c u t =
-    (let two = e 2 (omega arith) in
-    let n = e 11 (omega arith) in
+    (let two = e classesAt (omega arith) in
+    let n = e rowCountAt (omega arith) in
     let set = settings-same ws after (k .classes) (λ i h. e i (omega arith)) in
     record {
       enough = omega (arith, k .enough);
-      interval = omega (arith, k .interval, e 0 (omega arith));
+      interval = omega (arith, k .interval, e intervalAt (omega arith));
       classes-least = omega (arith, k .classes-least);
       classes = omega (arith, k .classes);
-      factors-clear = rw two (zeros-same ws after (3 + word ws 2) (8 - word ws 2) (λ i a b. e i (omega (arith, k .classes))) ∙ k .factors-clear);
+      factors-clear = rw two (zeros-same ws after (factorsAt + word ws classesAt) (8 - word ws classesAt) (λ i a b. e i (omega (arith, k .classes))) ∙ k .factors-clear);
       rows = omega (arith, k .rows);
-      rows-clear = rw n (zeros-same ws after (12 + 6 * word ws 11) (192 - 6 * word ws 11) (λ i a b. e i (omega (arith, k .rows))) ∙ k .rows-clear);
+      rows-clear = rw n (zeros-same ws after (rowsAt + 6 * word ws rowCountAt) (192 - 6 * word ws rowCountAt) (λ i a b. e i (omega (arith, k .rows))) ∙ k .rows-clear);
       link-clear = c;
       largest = rw set (k .largest);
       untagged = u;
       total = t;
     })
 
-pub link-clear-same : (ws after : List ℕ) → ((i : ℕ) → 206 ≤ i → i < 211 → word after i ≡ word ws i) → linkClear after ≡ linkClear ws
+pub link-clear-same : (ws after : List ℕ) → ((i : ℕ) → leftAt ≤ i → i < lengthsAt → word after i ≡ word ws i) → linkClear after ≡ linkClear ws
 unfolding linkClear
 link-clear-same ws after e =
-    rw (e 206 (omega arith) (omega arith), zeros-same ws after 207 4 (λ i a b. e i (omega arith) (omega arith)))
+    rw (e leftAt (omega arith) (omega arith), zeros-same ws after linkAt 4 (λ i a b. e i (omega arith) (omega arith)))
 
 -- words of the queues that stay give the same queues
-module _ (ws after : List ℕ) (e : (i : ℕ) → 211 ≤ i → word after i ≡ word ws i) where
+module _ (ws after : List ℕ) (e : (i : ℕ) → lengthsAt ≤ i → word after i ≡ word ws i) where
   pub lengths-same : (p : ℕ) → lengthsBelow after p ≡ lengthsBelow ws p
   unfolding lengthsBelow
   lengths-same zero = refl
-  lengths-same (suc p) = rw (lengths-same p, e (211 + p) (omega arith))
+  lengths-same (suc p) = rw (lengths-same p, e (lengthsAt + p) (omega arith))
 
   pub queue-same : (p : ℕ) → queueAt after p ≡ queueAt ws p
   unfolding queueAt startOf
   queue-same p =
-      rw (e (211 + p) (omega arith), lengths-same p)
-      (series-same (packetAt after) (packetAt ws) 4 (275 + 4 * lengthsBelow ws p) (275 + 4 * lengthsBelow ws p) (word ws (211 + p)) (λ i h.
-      packet-same ws after (275 + 4 * lengthsBelow ws p + 4 * i) (275 + 4 * lengthsBelow ws p + 4 * i) (λ j g. e (275 + 4 * lengthsBelow ws p + 4 * i + j) (omega arith))))
+      rw (e (lengthsAt + p) (omega arith), lengths-same p)
+      (series-same (packetAt after) (packetAt ws) 4 (packetsAt + 4 * lengthsBelow ws p) (packetsAt + 4 * lengthsBelow ws p) (word ws (lengthsAt + p)) (λ i h.
+      packet-same ws after (packetsAt + 4 * lengthsBelow ws p + 4 * i) (packetsAt + 4 * lengthsBelow ws p + 4 * i) (λ j g. e (packetsAt + 4 * lengthsBelow ws p + 4 * i + j) (omega arith))))
 
   pub queues-same : settingsAt after ≡ settingsAt ws → turnsAt after ≡ turnsAt ws → queuesAt after ≡ queuesAt ws
   unfolding queuesAt
@@ -140,5 +141,5 @@ module _ (ws after : List ℕ) (e : (i : ℕ) → 211 ≤ i → word after i ≡
   untagged-same s t =
       (let r = largestFactor (settingsAt ws) in
       rw (s, t)
-      (ap (every (λ w. eqb w 0)) (series-same (λ k. word after (211 + placeOf (turnsAt ws) k)) (λ k. word ws (211 + placeOf (turnsAt ws) k)) 1 (suc r) (suc r) (63 - r)
-      (λ i h. e (211 + placeOf (turnsAt ws) (suc r + 1 * i)) (omega arith)))))
+      (ap (every (λ w. eqb w 0)) (series-same (λ k. word after (lengthsAt + placeOf (turnsAt ws) k)) (λ k. word ws (lengthsAt + placeOf (turnsAt ws) k)) 1 (suc r) (suc r) (63 - r)
+      (λ i h. e (lengthsAt + placeOf (turnsAt ws) (suc r + 1 * i)) (omega arith)))))

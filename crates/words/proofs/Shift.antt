@@ -10,8 +10,8 @@ use lib.Dec.{eqb}
 use Rattle.laws.specs.Series.{series-same, series-set}
 use Rattle.laws.specs.Tests.{every}
 use Rattle.meaning.specs.Numbers.{largestFactor}
-use Rattle.meaning.specs.Box.{Packet}
-use Rattle.words.specs.Places.{word, lengthsBelow, startOf, placeOf, tagOf}
+use Rattle.meaning.specs.declared.Packet.{Packet}
+use Rattle.words.specs.Places.{word, lengthsBelow, startOf, placeOf, tagOf, intervalAt, counterAt, acceptedAt, leftAt, linkAt, lengthsAt, packetsAt}
 use Rattle.words.specs.Contents.{contents, settingsAt, packetAt, turnsAt, queueAt, queuesAt}
 use Rattle.words.specs.Sound.{emptyFrom, untaggedEmpty, Fitting}
 use Rattle.words.specs.Changes.{Become, withQueues}
@@ -22,20 +22,20 @@ use Rattle.words.proofs.Same.{settings-same, standings-same, packet-sam
 -- the queue at `place` loses `less` packets and gains `more`, and the packets of the later places move
 pub record Shifted (ws after : List ℕ) (place less more : ℕ) : Type 0 where
   pub same-length : length after ≡ length ws
-  pub tables : (i : ℕ) → i < 275 → (i ≡ 211 + place → ⊥) → word after i ≡ word ws i
-  pub count : word after (211 + place) + less ≡ word ws (211 + place) + more
-  pub before : (i : ℕ) → 275 ≤ i → i < startOf ws place → word after i ≡ word ws i
-  pub later : (i j : ℕ) → startOf ws (suc place) ≤ i → i < 275 + 4 * lengthsBelow ws 64 → j + 4 * less ≡ i + 4 * more → word after j ≡ word ws i
+  pub tables : (i : ℕ) → i < packetsAt → (i ≡ lengthsAt + place → ⊥) → word after i ≡ word ws i
+  pub count : word after (lengthsAt + place) + less ≡ word ws (lengthsAt + place) + more
+  pub before : (i : ℕ) → packetsAt ≤ i → i < startOf ws place → word after i ≡ word ws i
+  pub later : (i j : ℕ) → startOf ws (suc place) ≤ i → i < packetsAt + 4 * lengthsBelow ws 64 → j + 4 * less ≡ i + 4 * more → word after j ≡ word ws i
 
 pub lengths-rise : (ws : List ℕ) (p n : ℕ) → p ≤ n → lengthsBelow ws p ≤ lengthsBelow ws n
 lengths-rise ws p n h =
     elim (ℕ-discrete p n) [ yes q ↦ (let e = ap (lengthsBelow ws) q in omega arith) | no q ↦ omega (arith, lengths-most ws p n (omega arith)) ]
 
-pub lengths-next : (ws : List ℕ) (p : ℕ) → lengthsBelow ws (suc p) ≡ lengthsBelow ws p + word ws (211 + p)
+pub lengths-next : (ws : List ℕ) (p : ℕ) → lengthsBelow ws (suc p) ≡ lengthsBelow ws p + word ws (lengthsAt + p)
 unfolding lengthsBelow
 lengths-next ws p = refl
 
-pub start-is : (ws : List ℕ) (p : ℕ) → startOf ws p ≡ 275 + 4 * lengthsBelow ws p
+pub start-is : (ws : List ℕ) (p : ℕ) → startOf ws p ≡ packetsAt + 4 * lengthsBelow ws p
 unfolding startOf
 start-is ws p = refl
 
@@ -43,7 +43,7 @@ module _ (ws after : List ℕ) (place less more : ℕ) (in-range : place < 64) (
   below-same : (p : ℕ) → p ≤ place → lengthsBelow after p ≡ lengthsBelow ws p
   unfolding lengthsBelow
   below-same zero h = refl
-  below-same (suc p) h = rw (below-same p (omega arith), s .tables (211 + p) (omega arith) (λ q. omega arith))
+  below-same (suc p) h = rw (below-same p (omega arith), s .tables (lengthsAt + p) (omega arith) (λ q. omega arith))
 
   above-moved : (n : ℕ) → place + suc n ≤ 64 → lengthsBelow after (place + suc n) + less ≡ lengthsBelow ws (place + suc n) + more
   above-moved zero h =
@@ -58,7 +58,7 @@ module _ (ws after : List ℕ) (place less more : ℕ) (in-range : place < 64) (
       let a = lengths-next after (place + suc n) in
       let b = lengths-next ws (place + suc n) in
       let c = above-moved n (omega arith) in
-      let k = s .tables (211 + (place + suc n)) (omega arith) (λ q. omega arith) in
+      let k = s .tables (lengthsAt + (place + suc n)) (omega arith) (λ q. omega arith) in
       rw e (omega arith))
 
   above : (p : ℕ) → place < p → p ≤ 64 → lengthsBelow after p + less ≡ lengthsBelow ws p + more
@@ -71,8 +71,8 @@ module _ (ws after : List ℕ) (place less more : ℕ) (in-range : place < 64) (
   pub other-queue : (p : ℕ) → p < 64 → (p ≡ place → ⊥) → queueAt after p ≡ queueAt ws p
   unfolding queueAt
   other-queue p h q =
-      (let n = s .tables (211 + p) (omega arith) (λ e. q (omega arith)) in
-      let m = word ws (211 + p) in
+      (let n = s .tables (lengthsAt + p) (omega arith) (λ e. q (omega arith)) in
+      let m = word ws (lengthsAt + p) in
       let a = start-is after p in
       let b = start-is ws p in
       rw n (series-same (packetAt after) (packetAt ws) 4 (startOf after p) (startOf ws p) m (λ i l.
@@ -106,14 +106,14 @@ places-differ turns k tag h l q e =
 
 module _ (ws after : List ℕ) (tag less more : ℕ) (k : Fitting ws) (tagged : tag ≤ largestFactor (settingsAt ws))
     (s : Shifted ws after (placeOf (turnsAt ws) tag) less more) where
-  kept-words : (i : ℕ) → i < 211 → word after i ≡ word ws i
+  kept-words : (i : ℕ) → i < lengthsAt → word after i ≡ word ws i
   kept-words i h = s .tables i (omega arith) (λ q. omega arith)
 
   shift-settings : settingsAt after ≡ settingsAt ws
   shift-settings = settings-same ws after (k .classes) (λ i h. kept-words i (omega arith))
 
   shift-turns : turnsAt after ≡ turnsAt ws
-  shift-turns = turns-same ws after (kept-words 0 (omega arith)) (kept-words 204 (omega arith))
+  shift-turns = turns-same ws after (kept-words intervalAt (omega arith)) (kept-words counterAt (omega arith))
 
   shift-queues : queuesAt after ≡ set (queuesAt ws) tag (queueAt after (placeOf (turnsAt ws) tag))
   unfolding queuesAt
@@ -133,13 +133,13 @@ module _ (ws after : List ℕ) (tag less more : ℕ) (k : Fitting ws) (tagged : 
       (let t = turnsAt ws in
       let r = largestFactor (settingsAt ws) in
       rw (shift-settings, shift-turns)
-      (ap (every (λ w. eqb w 0)) (series-same (λ j. word after (211 + placeOf t j)) (λ j. word ws (211 + placeOf t j)) 1 (suc r) (suc r) (63 - r) (λ i h.
+      (ap (every (λ w. eqb w 0)) (series-same (λ j. word after (lengthsAt + placeOf t j)) (λ j. word ws (lengthsAt + placeOf t j)) 1 (suc r) (suc r) (63 - r) (λ i h.
       (let j = suc r + 1 * i in
-      s .tables (211 + placeOf t j) (omega (arith, place-below t j))
+      s .tables (lengthsAt + placeOf t j) (omega (arith, place-below t j))
       (λ q. places-differ t j tag (omega (arith, k .largest)) (omega (arith, k .largest)) (λ e. omega arith) (omega arith))))) ∙
       k .untagged))
 
-  pub shifted-become : lengthsBelow after 64 ≤ 1024 → ((i : ℕ) → 275 + 4 * lengthsBelow after 64 ≤ i → word after i ≡ word ws i)
+  pub shifted-become : lengthsBelow after 64 ≤ 1024 → ((i : ℕ) → packetsAt + 4 * lengthsBelow after 64 ≤ i → word after i ≡ word ws i)
       → Become ws after (withQueues (contents ws) (set (contents ws .queues) tag (queueAt after (placeOf (turnsAt ws) tag))))
   unfolding contents withQueues
   shifted-become h b =
@@ -150,10 +150,10 @@ module _ (ws after : List ℕ) (tag less more : ℕ) (k : Fitting ws) (tagged : 
             rw (
               shift-settings,
               standings-same ws after (k .rows) (λ i a l. kept-words i (omega arith)),
-              kept-words 204 (omega arith),
-              kept-words 205 (omega arith),
-              kept-words 206 (omega arith),
-              packet-same ws after 207 207 (λ j l. kept-words (207 + j) (omega arith)),
+              kept-words counterAt (omega arith),
+              kept-words acceptedAt (omega arith),
+              kept-words leftAt (omega arith),
+              packet-same ws after linkAt linkAt (λ j l. kept-words (linkAt + j) (omega arith)),
               shift-queues,
             );
         same-length = s .same-length;

@@ -15,8 +15,9 @@ use Rattle.laws.specs.Series.{series, series-same, series-last, every-all}
 use Rattle.laws.specs.Tests.{bool-cases}
 use Rattle.meaning.specs.Numbers.{largestFactor}
 use Rattle.meaning.specs.Queues.{turnAt, turned, tagZeroWaits}
-use Rattle.meaning.specs.Box.{Box, Packet, waiting}
-use Rattle.words.specs.Places.{word, placeOf}
+use Rattle.meaning.specs.declared.Packet.{Packet}
+use Rattle.meaning.specs.Box.{Box, waiting}
+use Rattle.words.specs.Places.{word, placeOf, intervalAt, counterAt, acceptedAt, leftAt, linkAt, lengthsAt}
 use Rattle.words.specs.Contents.{contents, settingsAt, linkOf, turnsAt, queueAt, queuesAt}
 use Rattle.words.specs.Sound.{linkClear, emptyFrom, untaggedEmpty, Fitting}
 use Rattle.words.specs.Changes.{Become, withAccepted, withLink, raised, PacketPut}
@@ -41,53 +42,53 @@ become-then ws mid after first second a b h =
     })
 
 -- the count of accepted packets
-pub accepted-become : (ws : List ℕ) (v : ℕ) → Fitting ws → Become ws (set ws 205 v) (withAccepted (contents ws) v)
+pub accepted-become : (ws : List ℕ) (v : ℕ) → Fitting ws → Become ws (set ws acceptedAt v) (withAccepted (contents ws) v)
 unfolding contents withAccepted
 accepted-become ws v k =
-    (let after = set ws 205 v in
-    let e : (i : ℕ) → (i ≡ 205 → ⊥) → word after i ≡ word ws i = λ i h. word-other ws 205 v i h in
+    (let after = set ws acceptedAt v in
+    let e : (i : ℕ) → (i ≡ acceptedAt → ⊥) → word after i ≡ word ws i = λ i h. word-other ws acceptedAt v i h in
     let s = settings-same ws after (k .classes) (λ i h. e i (λ q. omega arith)) in
-    let t = turns-same ws after (e 0 (λ q. omega arith)) (e 204 (λ q. omega arith)) in
-    let far : (i : ℕ) → 211 ≤ i → word after i ≡ word ws i = λ i h. e i (λ q. omega arith) in
+    let t = turns-same ws after (e intervalAt (λ q. omega arith)) (e counterAt (λ q. omega arith)) in
+    let far : (i : ℕ) → lengthsAt ≤ i → word after i ≡ word ws i = λ i h. e i (λ q. omega arith) in
     let l = lengths-same ws after far 64 in
     record {
-      fitting = fitting-kept ws after k (length-set ws 205 v) (λ i h. e i (λ q. omega arith))
+      fitting = fitting-kept ws after k (length-set ws acceptedAt v) (λ i h. e i (λ q. omega arith))
           (link-clear-same ws after (λ i a b. e i (λ q. omega arith)) ∙ k .link-clear) (untagged-same ws after far s t ∙ k .untagged) (omega (arith, k .total));
       stands-for =
           rw (
             s,
             standings-same ws after (k .rows) (λ i a b. e i (λ q. omega arith)),
-            e 204 (λ q. omega arith),
-            word-same ws 205 v 205 (omega (arith, k .enough)) refl,
-            e 206 (λ q. omega arith),
-            packet-same ws after 207 207 (λ j g. e (207 + j) (λ q. omega arith)),
+            e counterAt (λ q. omega arith),
+            word-same ws acceptedAt v acceptedAt (omega (arith, k .enough)) refl,
+            e leftAt (λ q. omega arith),
+            packet-same ws after linkAt linkAt (λ j g. e (linkAt + j) (λ q. omega arith)),
             queues-same ws after far s t,
           );
-      same-length = length-set ws 205 v;
+      same-length = length-set ws acceptedAt v;
       beyond = λ i h. far i (omega arith);
     })
 
 -- the link
-pub link-become : (ws after : List ℕ) (left : ℕ) (p : Packet) → Fitting ws → PacketPut (set ws 206 left) after 207 p → linkClear after ≡ true
+pub link-become : (ws after : List ℕ) (left : ℕ) (p : Packet) → Fitting ws → PacketPut (set ws leftAt left) after linkAt p → linkClear after ≡ true
     → Become ws after (withLink (contents ws) (linkOf left p))
 unfolding contents withLink
 link-become ws after left p k w c =
-    (let mid = set ws 206 left in
-    let far : (i : ℕ) → 211 ≤ i → word after i ≡ word ws i = λ i h. w .above i (omega arith) ∙ word-other ws 206 left i (λ q. omega arith) in
-    let near : (i : ℕ) → i < 206 → word after i ≡ word ws i = λ i h. w .below i (omega arith) ∙ word-other ws 206 left i (λ q. omega arith) in
+    (let mid = set ws leftAt left in
+    let far : (i : ℕ) → lengthsAt ≤ i → word after i ≡ word ws i = λ i h. w .above i (omega arith) ∙ word-other ws leftAt left i (λ q. omega arith) in
+    let near : (i : ℕ) → i < leftAt → word after i ≡ word ws i = λ i h. w .below i (omega arith) ∙ word-other ws leftAt left i (λ q. omega arith) in
     let s = settings-same ws after (k .classes) (λ i h. near i (omega arith)) in
-    let t = turns-same ws after (near 0 (omega arith)) (near 204 (omega arith)) in
+    let t = turns-same ws after (near intervalAt (omega arith)) (near counterAt (omega arith)) in
     let l = lengths-same ws after far 64 in
-    let n : length after ≡ length ws = w .same-length ∙ length-set ws 206 left in
+    let n : length after ≡ length ws = w .same-length ∙ length-set ws leftAt left in
     record {
       fitting = fitting-kept ws after k n (λ i h. near i (omega arith)) c (untagged-same ws after far s t ∙ k .untagged) (omega (arith, k .total));
       stands-for =
           rw (
             s,
             standings-same ws after (k .rows) (λ i a b. near i (omega arith)),
-            near 204 (omega arith),
-            near 205 (omega arith),
-            w .below 206 (omega arith) ∙ word-same ws 206 left 206 (omega (arith, k .enough)) refl,
+            near counterAt (omega arith),
+            near acceptedAt (omega arith),
+            w .below leftAt (omega arith) ∙ word-same ws leftAt left leftAt (omega (arith, k .enough)) refl,
             w .packet,
             queues-same ws after far s t,
           );
@@ -143,74 +144,74 @@ unfolding contents queuesAt series
 zero-empty ws e =
     first-empty (queueAt ws (placeOf (turnsAt ws) 0)) (series (λ k. queueAt ws (placeOf (turnsAt ws) k)) 1 1 (largestFactor (settingsAt ws))) e
 
-zero-length : (ws : List ℕ) → tagZeroWaits (contents ws .queues) ≡ false → word ws (211 + placeOf (turnsAt ws) 0) ≡ 0
+zero-length : (ws : List ℕ) → tagZeroWaits (contents ws .queues) ≡ false → word ws (lengthsAt + placeOf (turnsAt ws) 0) ≡ 0
 zero-length ws e = sym (length-queue ws (placeOf (turnsAt ws) 0)) ∙ ap length (zero-empty ws e)
 
 -- past the last tag nothing waits: the places come round to tag 0
 past-last : (ws : List ℕ) → Fitting ws → tagZeroWaits (contents ws .queues) ≡ false
-    → (k : ℕ) → largestFactor (settingsAt ws) < k → k ≤ 64 → word ws (211 + placeOf (turnsAt ws) k) ≡ 0
+    → (k : ℕ) → largestFactor (settingsAt ws) < k → k ≤ 64 → word ws (lengthsAt + placeOf (turnsAt ws) k) ≡ 0
 past-last ws f z k h l =
     elim (decLe 64 k) [
-      | yes a ↦ (let e : k ≡ 64 = omega arith in ap (λ n. word ws (211 + placeOf (turnsAt ws) n)) e ∙ ap (λ p. word ws (211 + p)) (place-whole (turnsAt ws)) ∙ zero-length ws z)
+      | yes a ↦ (let e : k ≡ 64 = omega arith in ap (λ n. word ws (lengthsAt + placeOf (turnsAt ws) n)) e ∙ ap (λ p. word ws (lengthsAt + p)) (place-whole (turnsAt ws)) ∙ zero-length ws z)
       | no a ↦ untagged-zero ws (f .untagged) k h (omega arith)
     ]
 
 -- the counter
 module _ (ws : List ℕ) (v : ℕ) (k : Fitting ws) where
-  counted : (i : ℕ) → (i ≡ 204 → ⊥) → word (set ws 204 v) i ≡ word ws i
-  counted i h = word-other ws 204 v i h
+  counted : (i : ℕ) → (i ≡ counterAt → ⊥) → word (set ws counterAt v) i ≡ word ws i
+  counted i h = word-other ws counterAt v i h
 
-  pub counted-far : (i : ℕ) → 211 ≤ i → word (set ws 204 v) i ≡ word ws i
+  pub counted-far : (i : ℕ) → lengthsAt ≤ i → word (set ws counterAt v) i ≡ word ws i
   counted-far i h = counted i (λ q. omega arith)
 
-  pub counted-settings : settingsAt (set ws 204 v) ≡ settingsAt ws
-  counted-settings = settings-same ws (set ws 204 v) (k .classes) (λ i h. counted i (λ q. omega arith))
+  pub counted-settings : settingsAt (set ws counterAt v) ≡ settingsAt ws
+  counted-settings = settings-same ws (set ws counterAt v) (k .classes) (λ i h. counted i (λ q. omega arith))
 
-  pub counter-become : (qs : List (List Packet)) → untaggedEmpty (set ws 204 v) ≡ true → queuesAt (set ws 204 v) ≡ qs
-      → Become ws (set ws 204 v) (record { settings = contents ws .settings; standing = contents ws .standing; counter = v; accepted = contents ws .accepted; link = contents ws .link; queues = qs })
+  pub counter-become : (qs : List (List Packet)) → untaggedEmpty (set ws counterAt v) ≡ true → queuesAt (set ws counterAt v) ≡ qs
+      → Become ws (set ws counterAt v) (record { settings = contents ws .settings; standing = contents ws .standing; counter = v; accepted = contents ws .accepted; link = contents ws .link; queues = qs })
   unfolding contents
   counter-become qs u q =
-      (let after = set ws 204 v in
+      (let after = set ws counterAt v in
       let l = lengths-same ws after counted-far 64 in
       record {
-        fitting = fitting-kept ws after k (length-set ws 204 v) (λ i h. counted i (λ q. omega arith))
+        fitting = fitting-kept ws after k (length-set ws counterAt v) (λ i h. counted i (λ q. omega arith))
             (link-clear-same ws after (λ i a b. counted i (λ q. omega arith)) ∙ k .link-clear) u (omega (arith, k .total));
         stands-for =
             rw (
               counted-settings,
               standings-same ws after (k .rows) (λ i a b. counted i (λ q. omega arith)),
-              word-same ws 204 v 204 (omega (arith, k .enough)) refl,
-              counted 205 (λ q. omega arith),
-              counted 206 (λ q. omega arith),
-              packet-same ws after 207 207 (λ j g. counted (207 + j) (λ q. omega arith)),
+              word-same ws counterAt v counterAt (omega (arith, k .enough)) refl,
+              counted acceptedAt (λ q. omega arith),
+              counted leftAt (λ q. omega arith),
+              packet-same ws after linkAt linkAt (λ j g. counted (linkAt + j) (λ q. omega arith)),
               q,
             );
-        same-length = length-set ws 204 v;
+        same-length = length-set ws counterAt v;
         beyond = λ i h. counted-far i (omega arith);
       })
 
-  turns-after : turnsAt (set ws 204 v) ≡ v / word ws 0
+  turns-after : turnsAt (set ws counterAt v) ≡ v / word ws intervalAt
   unfolding turnsAt
-  turns-after = rw (word-same ws 204 v 204 (omega (arith, k .enough)) refl, counted 0 (λ q. omega arith))
+  turns-after = rw (word-same ws counterAt v counterAt (omega (arith, k .enough)) refl, counted intervalAt (λ q. omega arith))
 
-  turned-untagged : turnsAt (set ws 204 v) ≡ suc (turnsAt ws) → tagZeroWaits (contents ws .queues) ≡ false → untaggedEmpty (set ws 204 v) ≡ true
+  turned-untagged : turnsAt (set ws counterAt v) ≡ suc (turnsAt ws) → tagZeroWaits (contents ws .queues) ≡ false → untaggedEmpty (set ws counterAt v) ≡ true
   unfolding untaggedEmpty emptyFrom
   turned-untagged t z =
       (let r = largestFactor (settingsAt ws) in
       rw (counted-settings, t)
-      (every-all (λ w. eqb w 0) (λ j. word (set ws 204 v) (211 + placeOf (suc (turnsAt ws)) j)) 1 (suc r) (63 - r) (λ i h.
+      (every-all (λ w. eqb w 0) (λ j. word (set ws counterAt v) (lengthsAt + placeOf (suc (turnsAt ws)) j)) 1 (suc r) (63 - r) (λ i h.
       (let j = suc r + 1 * i in
-      eq-eqb _ 0 (counted-far (211 + placeOf (suc (turnsAt ws)) j) (omega arith) ∙ ap (λ p. word ws (211 + p)) (place-turned (turnsAt ws) j) ∙
+      eq-eqb _ 0 (counted-far (lengthsAt + placeOf (suc (turnsAt ws)) j) (omega arith) ∙ ap (λ p. word ws (lengthsAt + p)) (place-turned (turnsAt ws) j) ∙
       past-last ws k z (suc j) (omega arith) (omega arith))))))
 
-  turned-queues : turnsAt (set ws 204 v) ≡ suc (turnsAt ws) → tagZeroWaits (contents ws .queues) ≡ false → queuesAt (set ws 204 v) ≡ turned (contents ws .queues)
+  turned-queues : turnsAt (set ws counterAt v) ≡ suc (turnsAt ws) → tagZeroWaits (contents ws .queues) ≡ false → queuesAt (set ws counterAt v) ≡ turned (contents ws .queues)
   unfolding queuesAt contents
   turned-queues t z =
       (let r = largestFactor (settingsAt ws) in
       let f : ℕ → List Packet = λ j. queueAt ws (placeOf (turnsAt ws) j) in
       rw (counted-settings, t)
-      (series-same (λ j. queueAt (set ws 204 v) (placeOf (suc (turnsAt ws)) j)) (λ j. f (suc j)) 1 0 0 (suc r) (λ i h.
-      queue-same ws (set ws 204 v) counted-far (placeOf (suc (turnsAt ws)) (0 + 1 * i)) ∙ ap (queueAt ws) (place-turned (turnsAt ws) (0 + 1 * i))) ∙
+      (series-same (λ j. queueAt (set ws counterAt v) (placeOf (suc (turnsAt ws)) j)) (λ j. f (suc j)) 1 0 0 (suc r) (λ i h.
+      queue-same ws (set ws counterAt v) counted-far (placeOf (suc (turnsAt ws)) (0 + 1 * i)) ∙ ap (queueAt ws) (place-turned (turnsAt ws) (0 + 1 * i))) ∙
       turned-series f r
       (queue-untagged ws (placeOf (turnsAt ws) (suc r)) (past-last ws k z (suc r) (omega arith) (omega (arith, k .largest))) ∙ sym (zero-empty ws z))))
 
@@ -223,11 +224,11 @@ unfolding turnAt
 no-turn-slot D n e z =
     true≢false (sym (and-eq-true-iff (ltb 0 (suc n)) (eqb (suc n % D) 0) .1 (lt-ltb 0 (suc n) (omega arith), eq-eqb (suc n % D) 0 z)) ∙ e)
 
-turns-is : (ws : List ℕ) → suc (word ws 204 / word ws 0) ≡ suc (turnsAt ws)
+turns-is : (ws : List ℕ) → suc (word ws counterAt / word ws intervalAt) ≡ suc (turnsAt ws)
 unfolding turnsAt
 turns-is ws = refl
 
-turns-same-is : (ws : List ℕ) → word ws 204 / word ws 0 ≡ turnsAt ws
+turns-same-is : (ws : List ℕ) → word ws counterAt / word ws intervalAt ≡ turnsAt ws
 unfolding turnsAt
 turns-same-is ws = refl
 
@@ -236,19 +237,19 @@ unfolding contents
 queues-is ws = refl
 
 -- the box after a slot, where it is known whether a turn is due
-turn-box : (ws : List ℕ) (v : ℕ) (due : Bool) → Fitting ws → v ≡ suc (word ws 204) → turnAt (word ws 0) (suc (word ws 204)) ≡ due
-    → Become ws (set ws 204 v)
+turn-box : (ws : List ℕ) (v : ℕ) (due : Bool) → Fitting ws → v ≡ suc (word ws counterAt) → turnAt (word ws intervalAt) (suc (word ws counterAt)) ≡ due
+    → Become ws (set ws counterAt v)
     (record { settings = contents ws .settings; standing = contents ws .standing; counter = v; accepted = contents ws .accepted; link = contents ws .link; queues = cond due (turned (contents ws .queues)) (contents ws .queues) })
-    → Become ws (set ws 204 v) (raised (contents ws))
+    → Become ws (set ws counterAt v) (raised (contents ws))
 unfolding raised contents settingsAt
 turn-box ws v due k e q b = rw (q, ← e) b
 
-pub raise-become : (ws : List ℕ) (v : ℕ) → Fitting ws → v ≡ suc (word ws 204)
-    → (turnAt (word ws 0) (suc (word ws 204)) ≡ true → tagZeroWaits (contents ws .queues) ≡ false)
-    → Become ws (set ws 204 v) (raised (contents ws))
+pub raise-become : (ws : List ℕ) (v : ℕ) → Fitting ws → v ≡ suc (word ws counterAt)
+    → (turnAt (word ws intervalAt) (suc (word ws counterAt)) ≡ true → tagZeroWaits (contents ws .queues) ≡ false)
+    → Become ws (set ws counterAt v) (raised (contents ws))
 raise-become ws v k e z =
-    (let n = word ws 204 in
-    let D = word ws 0 in
+    (let n = word ws counterAt in
+    let D = word ws intervalAt in
     ⊎-elim
     (λ (q : turnAt D (suc n) ≡ true).
     (let t = turns-after ws v k ∙ ap (λ m. m / D) e ∙ next-turn n D (k .interval) (turn-slot D n q) ∙ turns-is ws in
@@ -256,6 +257,6 @@ raise-become ws v k e z =
     (λ (q : turnAt D (suc n) ≡ false).
     (let t = turns-after ws v k ∙ ap (λ m. m / D) e ∙ no-turn n D (k .interval) (no-turn-slot D n q) ∙ turns-same-is ws in
     turn-box ws v false k e q
-    (counter-become ws v k (contents ws .queues) (untagged-same ws (set ws 204 v) (counted-far ws v k) (counted-settings ws v k) t ∙ k .untagged)
-    (queues-same ws (set ws 204 v) (counted-far ws v k) (counted-settings ws v k) t ∙ queues-is ws))))
+    (counter-become ws v k (contents ws .queues) (untagged-same ws (set ws counterAt v) (counted-far ws v k) (counted-settings ws v k) t ∙ k .untagged)
+    (queues-same ws (set ws counterAt v) (counted-far ws v k) (counted-settings ws v k) t ∙ queues-is ws))))
     (bool-cases (turnAt D (suc n))))

@@ -13,9 +13,10 @@ use Rattle.laws.specs.Tests.{every, within-facts, within-test, bool-cases, same
 use Rattle.laws.specs.Deciding.{every-append, every-split, every-flatten, every-unflatten, every-map, every-both}
 use Rattle.meaning.specs.Numbers.{largestFactor, risingAbove, settingsAllowed, connectionAllowed, mostConnections, mostWaiting, lastSlot}
 use Rattle.meaning.specs.Envelope.{allowanceKept}
-use Rattle.meaning.specs.Box.{Box, Packet, connections, waiting, onLink, packets, packetKept, linkKept, serialsRise, allowancesKept, sound}
+use Rattle.meaning.specs.declared.Packet.{Packet}
+use Rattle.meaning.specs.Box.{Box, connections, waiting, onLink, packets, packetKept, linkKept, serialsRise, allowancesKept, sound}
 use Rattle.meaning.proofs.Facts.{sound-facts, sound-test, settings-facts}
-use Rattle.words.specs.Places.{boxWords, word, lengthsBelow, placeOf}
+use Rattle.words.specs.Places.{boxWords, word, lengthsBelow, placeOf, classesAt, factorsAt, rowCountAt, rowsAt, counterAt, acceptedAt, leftAt, linkAt, lengthsAt}
 use Rattle.words.specs.Contents.{contents, settingsAt, standings, packetAt, linkOf, turnsAt, queueAt, queuesAt}
 use Rattle.words.specs.Sound.{zeros, unusedClear, linkClear, emptyFrom, untaggedEmpty, wellFormed, soundWords}
 use Rattle.words.specs.Tested.{settingsTested, rowKept, rowsTested, linkTested, countsTested, queuesTested, tested}
@@ -26,16 +27,16 @@ use Rattle.words.proofs.QueuesTested.{QueueFacts, QueuesFacts, queues-f
 
 -- the parts of the test
 record Parts (ws : List ℕ) : Type 0 where
-  enough : 4371 ≤ length ws
-  classes : word ws 2 ≤ 8
+  enough : boxWords ≤ length ws
+  classes : word ws classesAt ≤ 8
   settings : settingsAllowed (settingsAt ws) ≡ true
-  factors-clear : zeros ws (3 + word ws 2) (8 - word ws 2) ≡ true
-  rows : word ws 11 ≤ 32
+  factors-clear : zeros ws (factorsAt + word ws classesAt) (8 - word ws classesAt) ≡ true
+  rows : word ws rowCountAt ≤ 32
   rows-kept : every (rowKept ws) (standings ws) ≡ true
-  rows-clear : zeros ws (12 + 6 * word ws 11) (192 - 6 * word ws 11) ≡ true
-  counter : word ws 204 ≤ 4000000000
+  rows-clear : zeros ws (rowsAt + 6 * word ws rowCountAt) (192 - 6 * word ws rowCountAt) ≡ true
+  counter : word ws counterAt ≤ 4000000000
   total : lengthsBelow ws 64 ≤ 1024
-  accepted : word ws 205 ≤ word ws 204 + (lengthsBelow ws 64 + cond (eqb (word ws 206) 0) 0 1)
+  accepted : word ws acceptedAt ≤ word ws counterAt + (lengthsBelow ws 64 + cond (eqb (word ws leftAt) 0) 0 1)
   link : linkTested ws ≡ true
   queues : QueuesFacts ws
 
@@ -52,13 +53,13 @@ tested-parts ws e =
     let c = and-eq-true-iff (l && S && R) C .0 (b .0) in
     let d = and-eq-true-iff (l && S) R .0 (c .0) in
     let f = and-eq-true-iff l S .0 (d .0) in
-    let s = and-eq-true-iff (leb (word ws 2) 8 && settingsAllowed (settingsAt ws)) (zeros ws (3 + word ws 2) (8 - word ws 2)) .0 (f .1) in
-    let s2 = and-eq-true-iff (leb (word ws 2) 8) (settingsAllowed (settingsAt ws)) .0 (s .0) in
-    let r = and-eq-true-iff (leb (word ws 11) mostConnections && every (rowKept ws) (standings ws)) (zeros ws (12 + 6 * word ws 11) (192 - 6 * word ws 11)) .0 (d .1) in
-    let r2 = and-eq-true-iff (leb (word ws 11) mostConnections) (every (rowKept ws) (standings ws)) .0 (r .0) in
-    let n = leb (word ws 205) (word ws 204 + (lengthsBelow ws 64 + cond (eqb (word ws 206) 0) 0 1)) in
-    let k = and-eq-true-iff (leb (word ws 204) lastSlot && leb (lengthsBelow ws 64) mostWaiting) n .0 (c .1) in
-    let k2 = and-eq-true-iff (leb (word ws 204) lastSlot) (leb (lengthsBelow ws 64) mostWaiting) .0 (k .0) in
+    let s = and-eq-true-iff (leb (word ws classesAt) 8 && settingsAllowed (settingsAt ws)) (zeros ws (factorsAt + word ws classesAt) (8 - word ws classesAt)) .0 (f .1) in
+    let s2 = and-eq-true-iff (leb (word ws classesAt) 8) (settingsAllowed (settingsAt ws)) .0 (s .0) in
+    let r = and-eq-true-iff (leb (word ws rowCountAt) mostConnections && every (rowKept ws) (standings ws)) (zeros ws (rowsAt + 6 * word ws rowCountAt) (192 - 6 * word ws rowCountAt)) .0 (d .1) in
+    let r2 = and-eq-true-iff (leb (word ws rowCountAt) mostConnections) (every (rowKept ws) (standings ws)) .0 (r .0) in
+    let n = leb (word ws acceptedAt) (word ws counterAt + (lengthsBelow ws 64 + cond (eqb (word ws leftAt) 0) 0 1)) in
+    let k = and-eq-true-iff (leb (word ws counterAt) lastSlot && leb (lengthsBelow ws 64) mostWaiting) n .0 (c .1) in
+    let k2 = and-eq-true-iff (leb (word ws counterAt) lastSlot) (leb (lengthsBelow ws 64) mostWaiting) .0 (k .0) in
     record {
       enough = leb-true _ _ (f .0);
       classes = leb-true _ _ (s2 .0);
@@ -82,16 +83,16 @@ parts-tested ws p =
     let R = rowsTested ws in
     let C = countsTested ws in
     let L = linkTested ws in
-    let n = leb (word ws 205) (word ws 204 + (lengthsBelow ws 64 + cond (eqb (word ws 206) 0) 0 1)) in
+    let n = leb (word ws acceptedAt) (word ws counterAt + (lengthsBelow ws 64 + cond (eqb (word ws leftAt) 0) 0 1)) in
     let s : S ≡ true =
-    and-eq-true-iff (leb (word ws 2) 8 && settingsAllowed (settingsAt ws)) (zeros ws (3 + word ws 2) (8 - word ws 2)) .1
-    (and-eq-true-iff (leb (word ws 2) 8) (settingsAllowed (settingsAt ws)) .1 (le-leb _ _ (p .classes), p .settings), p .factors-clear) in
+    and-eq-true-iff (leb (word ws classesAt) 8 && settingsAllowed (settingsAt ws)) (zeros ws (factorsAt + word ws classesAt) (8 - word ws classesAt)) .1
+    (and-eq-true-iff (leb (word ws classesAt) 8) (settingsAllowed (settingsAt ws)) .1 (le-leb _ _ (p .classes), p .settings), p .factors-clear) in
     let r : R ≡ true =
-    and-eq-true-iff (leb (word ws 11) mostConnections && every (rowKept ws) (standings ws)) (zeros ws (12 + 6 * word ws 11) (192 - 6 * word ws 11)) .1
-    (and-eq-true-iff (leb (word ws 11) mostConnections) (every (rowKept ws) (standings ws)) .1 (le-leb _ _ (p .rows), p .rows-kept), p .rows-clear) in
+    and-eq-true-iff (leb (word ws rowCountAt) mostConnections && every (rowKept ws) (standings ws)) (zeros ws (rowsAt + 6 * word ws rowCountAt) (192 - 6 * word ws rowCountAt)) .1
+    (and-eq-true-iff (leb (word ws rowCountAt) mostConnections) (every (rowKept ws) (standings ws)) .1 (le-leb _ _ (p .rows), p .rows-kept), p .rows-clear) in
     let c : C ≡ true =
-    and-eq-true-iff (leb (word ws 204) lastSlot && leb (lengthsBelow ws 64) mostWaiting) n .1
-    (and-eq-true-iff (leb (word ws 204) lastSlot) (leb (lengthsBelow ws 64) mostWaiting) .1 (le-leb _ _ (p .counter), le-leb _ _ (p .total)), le-leb _ _ (p .accepted)) in
+    and-eq-true-iff (leb (word ws counterAt) lastSlot && leb (lengthsBelow ws 64) mostWaiting) n .1
+    (and-eq-true-iff (leb (word ws counterAt) lastSlot) (leb (lengthsBelow ws 64) mostWaiting) .1 (le-leb _ _ (p .counter), le-leb _ _ (p .total)), le-leb _ _ (p .accepted)) in
     and-eq-true-iff (l && S && R && C && L) (queuesTested ws) .1 (
       and-eq-true-iff (l && S && R && C) L .1
           (and-eq-true-iff (l && S && R) C .1 (and-eq-true-iff (l && S) R .1 (and-eq-true-iff l S .1 (le-leb _ _ (p .enough), s), r), c), p .link),
@@ -101,8 +102,8 @@ parts-tested ws p =
 -- the clauses on the link
 record LinkFacts (box : Box) (ws : List ℕ) : Type 0 where
   clear : linkClear ws ≡ true
-  kept : every (packetKept box) (onLink (linkOf (word ws 206) (packetAt ws 207))) ≡ true
-  left : linkKept (linkOf (word ws 206) (packetAt ws 207)) ≡ true
+  kept : every (packetKept box) (onLink (linkOf (word ws leftAt) (packetAt ws linkAt))) ≡ true
+  left : linkKept (linkOf (word ws leftAt) (packetAt ws linkAt)) ≡ true
 
 link-count : (n : ℕ) (p : Packet) → length (onLink (linkOf n p)) ≡ cond (eqb n 0) 0 1
 unfolding onLink linkOf
@@ -113,58 +114,58 @@ link-facts : (ws : List ℕ) → linkTested ws ≡ true → LinkFacts (contents 
 unfolding linkTested linkClear onLink linkOf every linkKept packetAt
 link-facts ws e =
     ⊎-elim
-    (λ (q : eqb (word ws 206) 0 ≡ true).
-    (let z = eqb-true (word ws 206) 0 q in
-    let c : zeros ws 207 4 ≡ true =
-    sym (ap (λ b. cond b (zeros ws 207 4) (packetKept (contents ws) (packetAt ws 207) && ltb (word ws 206) (word ws 209))) q) ∙ e in
+    (λ (q : eqb (word ws leftAt) 0 ≡ true).
+    (let z = eqb-true (word ws leftAt) 0 q in
+    let c : zeros ws linkAt 4 ≡ true =
+    sym (ap (λ b. cond b (zeros ws linkAt 4) (packetKept (contents ws) (packetAt ws linkAt) && ltb (word ws leftAt) (word ws (linkAt + 2)))) q) ∙ e in
     record {
-      clear = ap (λ b. cond b (zeros ws 207 4) true) q ∙ c;
-      kept = ap (λ n. every (packetKept (contents ws)) (onLink (linkOf n (packetAt ws 207)))) z;
-      left = ap (λ n. linkKept (linkOf n (packetAt ws 207))) z;
+      clear = ap (λ b. cond b (zeros ws linkAt 4) true) q ∙ c;
+      kept = ap (λ n. every (packetKept (contents ws)) (onLink (linkOf n (packetAt ws linkAt)))) z;
+      left = ap (λ n. linkKept (linkOf n (packetAt ws linkAt))) z;
     }))
-    (λ (q : eqb (word ws 206) 0 ≡ false).
-    (let z = eqb-false (word ws 206) 0 q in
-    let t = sym (ap (λ b. cond b (zeros ws 207 4) (packetKept (contents ws) (packetAt ws 207) && ltb (word ws 206) (word ws 209))) q) ∙ e in
-    let a = and-eq-true-iff (packetKept (contents ws) (packetAt ws 207)) (ltb (word ws 206) (word ws 209)) .0 t in
-    let h : word ws 206 < word ws 209 = ltb-true _ _ (a .1) in
-    let l = link-carries (word ws 206) (packetAt ws 207) (omega arith) in
+    (λ (q : eqb (word ws leftAt) 0 ≡ false).
+    (let z = eqb-false (word ws leftAt) 0 q in
+    let t = sym (ap (λ b. cond b (zeros ws linkAt 4) (packetKept (contents ws) (packetAt ws linkAt) && ltb (word ws leftAt) (word ws (linkAt + 2)))) q) ∙ e in
+    let a = and-eq-true-iff (packetKept (contents ws) (packetAt ws linkAt)) (ltb (word ws leftAt) (word ws (linkAt + 2))) .0 t in
+    let h : word ws leftAt < word ws (linkAt + 2) = ltb-true _ _ (a .1) in
+    let l = link-carries (word ws leftAt) (packetAt ws linkAt) (omega arith) in
     record {
-      clear = ap (λ b. cond b (zeros ws 207 4) true) q;
-      kept = ap (λ l. every (packetKept (contents ws)) (onLink l)) l ∙ and-eq-true-iff (packetKept (contents ws) (packetAt ws 207)) true .1 (a .0, refl);
-      left = ap linkKept l ∙ within-test 1 (word ws 206) (word ws 209 - 1) (omega arith) (omega arith);
+      clear = ap (λ b. cond b (zeros ws linkAt 4) true) q;
+      kept = ap (λ l. every (packetKept (contents ws)) (onLink l)) l ∙ and-eq-true-iff (packetKept (contents ws) (packetAt ws linkAt)) true .1 (a .0, refl);
+      left = ap linkKept l ∙ within-test 1 (word ws leftAt) (word ws (linkAt + 2) - 1) (omega arith) (omega arith);
     }))
-    (bool-cases (eqb (word ws 206) 0))
+    (bool-cases (eqb (word ws leftAt) 0))
 
 link-test : (ws : List ℕ) → LinkFacts (contents ws) ws → linkTested ws ≡ true
 unfolding linkTested linkClear onLink linkOf every linkKept packetAt
 link-test ws f =
     ⊎-elim
-    (λ (q : eqb (word ws 206) 0 ≡ true).
-    ap (λ b. cond b (zeros ws 207 4) (packetKept (contents ws) (packetAt ws 207) && ltb (word ws 206) (word ws 209))) q ∙
-    sym (ap (λ b. cond b (zeros ws 207 4) true) q) ∙ f .clear)
-    (λ (q : eqb (word ws 206) 0 ≡ false).
-    (let z = eqb-false (word ws 206) 0 q in
-    let l = link-carries (word ws 206) (packetAt ws 207) (omega arith) in
-    let k = and-eq-true-iff (packetKept (contents ws) (packetAt ws 207)) true .0 (sym (ap (λ l. every (packetKept (contents ws)) (onLink l)) l) ∙ f .kept) in
-    let w = within-facts 1 (word ws 206) (word ws 209 - 1) (sym (ap linkKept l) ∙ f .left) in
-    ap (λ b. cond b (zeros ws 207 4) (packetKept (contents ws) (packetAt ws 207) && ltb (word ws 206) (word ws 209))) q ∙
-    and-eq-true-iff (packetKept (contents ws) (packetAt ws 207)) (ltb (word ws 206) (word ws 209)) .1 (k .0, lt-ltb (word ws 206) (word ws 209) (omega arith))))
-    (bool-cases (eqb (word ws 206) 0))
+    (λ (q : eqb (word ws leftAt) 0 ≡ true).
+    ap (λ b. cond b (zeros ws linkAt 4) (packetKept (contents ws) (packetAt ws linkAt) && ltb (word ws leftAt) (word ws (linkAt + 2)))) q ∙
+    sym (ap (λ b. cond b (zeros ws linkAt 4) true) q) ∙ f .clear)
+    (λ (q : eqb (word ws leftAt) 0 ≡ false).
+    (let z = eqb-false (word ws leftAt) 0 q in
+    let l = link-carries (word ws leftAt) (packetAt ws linkAt) (omega arith) in
+    let k = and-eq-true-iff (packetKept (contents ws) (packetAt ws linkAt)) true .0 (sym (ap (λ l. every (packetKept (contents ws)) (onLink l)) l) ∙ f .kept) in
+    let w = within-facts 1 (word ws leftAt) (word ws (linkAt + 2) - 1) (sym (ap linkKept l) ∙ f .left) in
+    ap (λ b. cond b (zeros ws linkAt 4) (packetKept (contents ws) (packetAt ws linkAt) && ltb (word ws leftAt) (word ws (linkAt + 2)))) q ∙
+    and-eq-true-iff (packetKept (contents ws) (packetAt ws linkAt)) (ltb (word ws leftAt) (word ws (linkAt + 2))) .1 (k .0, lt-ltb (word ws leftAt) (word ws (linkAt + 2)) (omega arith))))
+    (bool-cases (eqb (word ws leftAt) 0))
 
 -- the rows pass both tests together
 rows-both : (ws : List ℕ) → every (rowKept ws) (standings ws) ≡
     (every (connectionAllowed (settingsAt ws)) (connections (contents ws)) && allowancesKept (contents ws))
 unfolding rowKept connections allowancesKept contents
 rows-both ws =
-    every-both (λ s. connectionAllowed (settingsAt ws) (s .asked)) (λ s. allowanceKept (s .asked) (word ws 204) (s .allowance)) (standings ws) ∙
-    ap (λ b. b && every (λ s. allowanceKept (s .asked) (word ws 204) (s .allowance)) (standings ws))
+    every-both (λ s. connectionAllowed (settingsAt ws) (s .asked)) (λ s. allowanceKept (s .asked) (word ws counterAt) (s .allowance)) (standings ws) ∙
+    ap (λ b. b && every (λ s. allowanceKept (s .asked) (word ws counterAt) (s .allowance)) (standings ws))
     (sym (every-map (connectionAllowed (settingsAt ws)) (λ s. s .asked) (standings ws)))
 
 untagged-test : (ws : List ℕ) → QueuesFacts ws → untaggedEmpty ws ≡ true
 unfolding untaggedEmpty emptyFrom
 untagged-test ws f =
     (let r = largestFactor (settingsAt ws) in
-    every-all (λ w. eqb w 0) (λ k. word ws (211 + placeOf (turnsAt ws) k)) 1 (suc r) (63 - r) (λ i h.
+    every-all (λ w. eqb w 0) (λ k. word ws (lengthsAt + placeOf (turnsAt ws) k)) 1 (suc r) (63 - r) (λ i h.
     eq-eqb _ 0 (f .untagged (suc r + 1 * i) (omega arith) (omega arith))))
 
 queues-count : (ws : List ℕ) → length (queuesAt ws) ≡ suc (largestFactor (settingsAt ws))
@@ -195,11 +196,11 @@ parts-sound ws p =
     let n : lengthsBelow ws 64 ≡ length (waiting box) = waiting-count ws u (s .factor-most) in
     let b = and-eq-true-iff (every (connectionAllowed (settingsAt ws)) (connections box)) (allowancesKept box) .0 (sym (rows-both ws) ∙ p .rows-kept) in
     let l = link-facts ws (p .link) in
-    let onlink = linkOf (word ws 206) (packetAt ws 207) in
+    let onlink = linkOf (word ws leftAt) (packetAt ws linkAt) in
     let tagged : (k : ℕ) → k ≤ largestFactor (settingsAt ws) → QueueFacts box (turnsAt ws + k) 0 (queueAt ws (placeOf (turnsAt ws) k)) =
     λ k h. p .queues .tagged k h (omega (arith, s .factor-most)) in
-    let c : length (packets box) ≡ length (waiting box) + cond (eqb (word ws 206) 0) 0 1 =
-    length-append (waiting box) (onLink onlink) ∙ ap (λ m. length (waiting box) + m) (link-count (word ws 206) (packetAt ws 207)) in
+    let c : length (packets box) ≡ length (waiting box) + cond (eqb (word ws leftAt) 0) 0 1 =
+    length-append (waiting box) (onLink onlink) ∙ ap (λ m. length (waiting box) + m) (link-count (word ws leftAt) (packetAt ws linkAt)) in
     sound-test box (record {
       settings-allowed = p .settings;
       connections-most = omega (arith, p .rows, row-count ws);
@@ -223,7 +224,7 @@ parts-formed ws p =
       and-eq-true-iff (leb boxWords (length ws) && unusedClear ws) (linkClear ws) .1 (
         and-eq-true-iff (leb boxWords (length ws)) (unusedClear ws) .1 (
           le-leb _ _ (p .enough),
-          and-eq-true-iff (zeros ws (3 + word ws 2) (8 - word ws 2)) (zeros ws (12 + 6 * word ws 11) (192 - 6 * word ws 11)) .1 (p .factors-clear, p .rows-clear),
+          and-eq-true-iff (zeros ws (factorsAt + word ws classesAt) (8 - word ws classesAt)) (zeros ws (rowsAt + 6 * word ws rowCountAt) (192 - 6 * word ws rowCountAt)) .1 (p .factors-clear, p .rows-clear),
         ),
         link-facts ws (p .link) .clear,
       ),
@@ -241,10 +242,10 @@ sound-parts ws e =
     let k = sound-fitting ws e in
     let f = sound-facts box (sound-contents ws e) in
     let s = settings-facts (settingsAt ws) (f .settings-allowed) in
-    let onlink = linkOf (word ws 206) (packetAt ws 207) in
+    let onlink = linkOf (word ws leftAt) (packetAt ws linkAt) in
     let n : lengthsBelow ws 64 ≡ length (waiting box) = waiting-count ws (k .untagged) (k .largest) in
-    let c : length (packets box) ≡ length (waiting box) + cond (eqb (word ws 206) 0) 0 1 =
-    length-append (waiting box) (onLink onlink) ∙ ap (λ m. length (waiting box) + m) (link-count (word ws 206) (packetAt ws 207)) in
+    let c : length (packets box) ≡ length (waiting box) + cond (eqb (word ws leftAt) 0) 0 1 =
+    length-append (waiting box) (onLink onlink) ∙ ap (λ m. length (waiting box) + m) (link-count (word ws leftAt) (packetAt ws linkAt)) in
     let q = every-split (packetKept box) (waiting box) (onLink onlink) (f .packets-kept) in
     record {
       enough = k .enough;

@@ -5,9 +5,11 @@ use mathlib.Core.Bool.{cond}
 use mathlib.Core.List.{List, [], _∷_}
 use lib.ListN.{length}
 use Rattle.meaning.specs.Queues.{turnAt, turned}
-use Rattle.meaning.specs.Box.{Box, Packet, Standing, Link}
+use Rattle.meaning.specs.declared.Packet.{Packet}
+use Rattle.meaning.specs.declared.Standing.{Standing}
+use Rattle.meaning.specs.Box.{Box, Link}
 use Rattle.meaning.specs.Step.{linkTaken, queuesTaken}
-use Rattle.words.specs.Places.{word, lengthsBelow}
+use Rattle.words.specs.Places.{word, lengthsBelow, packetsAt}
 use Rattle.words.specs.Contents.{contents, packetAt, standingAt}
 use Rattle.words.specs.Sound.{Fitting}
 
@@ -16,7 +18,7 @@ pub record Become (ws after : List ℕ) (box : Box) : Type 0 where
   pub fitting : Fitting after
   pub stands-for : contents after ≡ box
   pub same-length : length after ≡ length ws
-  pub beyond : (i : ℕ) → 275 + 4 * lengthsBelow after 64 ≤ i → word after i ≡ word ws i
+  pub beyond : (i : ℕ) → packetsAt + 4 * lengthsBelow after 64 ≤ i → word after i ≡ word ws i
 
 -- The box with these queues.
 unfoldable pub withQueues : Box → List (List Packet) → Box

@@ -4,12 +4,14 @@ use mathlib.Core.List.{List, [], _∷_, _++_, map, flatten}
 use lib.ListN.{length, getD, drop, replicate}
 use Rattle.laws.specs.Series.{series}
 use Rattle.meaning.specs.Numbers.{Settings, largestFactor}
-use Rattle.meaning.specs.Box.{Box, Packet, Standing, Link, free, carries}
-use Rattle.words.specs.Places.{word, startOf, placeOf, tagOf}
+use Rattle.meaning.specs.declared.Packet.{Packet}
+use Rattle.meaning.specs.declared.Standing.{Standing}
+use Rattle.meaning.specs.Box.{Box, Link, free, carries}
+use Rattle.words.specs.Places.{word, startOf, placeOf, tagOf, intervalAt, cycleAt, classesAt, factorsAt, rowCountAt, rowsAt, counterAt, acceptedAt, leftAt, linkAt, lengthsAt}
 
 -- The settings: D, M and as many factors as word 2 says.
 unfoldable pub settingsAt : List ℕ → Settings
-settingsAt ws = record { interval = word ws 0; cycle = word ws 1; factors = series (λ i. word ws i) 1 3 (word ws 2) }
+settingsAt ws = record { interval = word ws intervalAt; cycle = word ws cycleAt; factors = series (λ i. word ws i) 1 factorsAt (word ws classesAt) }
 
 -- The connection's row that starts at this word.
 unfoldable pub standingAt : List ℕ → ℕ → Standing
@@ -21,12 +23,16 @@ standingAt ws at =
 
 -- The rows of the connections that stand.
 unfoldable pub standings : List ℕ → List Standing
-standings ws = series (standingAt ws) 6 12 (word ws 11)
+standings ws = series (standingAt ws) 6 rowsAt (word ws rowCountAt)
 
 -- The packet that starts at this word.
 unfoldable pub packetAt : List ℕ → ℕ → Packet
 packetAt ws at =
     record { serial = word ws at; connection = word ws (at + 1); units = word ws (at + 2); arrival = word ws (at + 3) }
+
+-- The packet whose words are all 0, where the link is free.
+abbrev pub noPacket : Packet
+noPacket = record { serial = 0; connection = 0; units = 0; arrival = 0 }
 
 -- The link with so many units left of this packet; 0 left is a free link.
 unfoldable pub linkOf : ℕ → Packet → Link
@@ -35,11 +41,11 @@ linkOf (suc n) p = carries p (suc n)
 
 -- floor(now/D): how often the queues have turned.
 unfoldable pub turnsAt : List ℕ → ℕ
-turnsAt ws = word ws 204 / word ws 0
+turnsAt ws = word ws counterAt / word ws intervalAt
 
 -- The queue at place p, its head first.
 unfoldable pub queueAt : List ℕ → ℕ → List Packet
-queueAt ws p = series (packetAt ws) 4 (startOf ws p) (word ws (211 + p))
+queueAt ws p = series (packetAt ws) 4 (startOf ws p) (word ws (lengthsAt + p))
 
 -- The queues by their tags, 0 to rP.
 unfoldable pub queuesAt : List ℕ → List (List Packet)
@@ -51,9 +57,9 @@ contents ws =
     record {
       settings = settingsAt ws;
       standing = standings ws;
-      counter = word ws 204;
-      accepted = word ws 205;
-      link = linkOf (word ws 206) (packetAt ws 207);
+      counter = word ws counterAt;
+      accepted = word ws acceptedAt;
+      link = linkOf (word ws leftAt) (packetAt ws linkAt);
       queues = queuesAt ws;
     }
 

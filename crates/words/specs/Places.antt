@@ -3,9 +3,46 @@ use Prim.Native.Nat.{ℕ, zero, suc, _+_, _-_, _*_, _%_}
 use mathlib.Core.List.{List}
 use lib.ListN.{getD}
 
--- A box takes this many words: 275 of tables, then 4 for each of 1,024 packets.
+-- The places, each by the one before it: D, M, P, the factors, the number of rows, the rows, counter, count of accepted packets, units left,
+-- the packet on the link, the lengths of the queues, the packets, and the number of words that a box takes.
+abbrev pub intervalAt : ℕ
+intervalAt = 0
+
+abbrev pub cycleAt : ℕ
+cycleAt = intervalAt + 1
+
+abbrev pub classesAt : ℕ
+classesAt = cycleAt + 1
+
+abbrev pub factorsAt : ℕ
+factorsAt = classesAt + 1
+
+abbrev pub rowCountAt : ℕ
+rowCountAt = factorsAt + 8
+
+abbrev pub rowsAt : ℕ
+rowsAt = rowCountAt + 1
+
+abbrev pub counterAt : ℕ
+counterAt = rowsAt + 192
+
+abbrev pub acceptedAt : ℕ
+acceptedAt = counterAt + 1
+
+abbrev pub leftAt : ℕ
+leftAt = acceptedAt + 1
+
+abbrev pub linkAt : ℕ
+linkAt = leftAt + 1
+
+abbrev pub lengthsAt : ℕ
+lengthsAt = linkAt + 4
+
+abbrev pub packetsAt : ℕ
+packetsAt = lengthsAt + 64
+
 abbrev pub boxWords : ℕ
-boxWords = 4371
+boxWords = packetsAt + 4096
 
 -- The word at a place.
 abbrev pub word : List ℕ → ℕ → ℕ
@@ -14,11 +51,11 @@ word ws i = getD ws i 0
 -- The waiting packets of the queues at the places below p.
 unfoldable pub lengthsBelow : List ℕ → ℕ → ℕ
 lengthsBelow ws zero = 0
-lengthsBelow ws (suc p) = lengthsBelow ws p + word ws (211 + p)
+lengthsBelow ws (suc p) = lengthsBelow ws p + word ws (lengthsAt + p)
 
 -- The word at which the queue at place p starts.
 unfoldable pub startOf : List ℕ → ℕ → ℕ
-startOf ws p = 275 + 4 * lengthsBelow ws p
+startOf ws p = packetsAt + 4 * lengthsBelow ws p
 
 -- The place of the queue tagged k, where floor(now/D) is `turns`.
 unfoldable pub placeOf : ℕ → ℕ → ℕ

@@ -9,7 +9,7 @@ use Rattle.laws.specs.Series.{series}
 use Rattle.laws.specs.Tests.{every}
 use Rattle.meaning.specs.Numbers.{largestFactor}
 use Rattle.meaning.specs.Box.{sound}
-use Rattle.words.specs.Places.{boxWords, word, lengthsBelow, placeOf}
+use Rattle.words.specs.Places.{boxWords, word, lengthsBelow, placeOf, intervalAt, classesAt, factorsAt, rowCountAt, rowsAt, leftAt, linkAt, lengthsAt}
 use Rattle.words.specs.Contents.{contents, settingsAt, turnsAt}
 
 -- n words from `start` on are 0.
@@ -18,15 +18,15 @@ zeros ws start n = every (λ w. eqb w 0) (series (λ i. word ws i) 1 start n)
 
 -- The places of the factors and of the rows that are not used are 0.
 unfoldable pub unusedClear : List ℕ → Bool
-unusedClear ws = zeros ws (3 + word ws 2) (8 - word ws 2) && zeros ws (12 + 6 * word ws 11) (192 - 6 * word ws 11)
+unusedClear ws = zeros ws (factorsAt + word ws classesAt) (8 - word ws classesAt) && zeros ws (rowsAt + 6 * word ws rowCountAt) (192 - 6 * word ws rowCountAt)
 
 -- Where no units are left on the link, its packet's words are 0.
 unfoldable pub linkClear : List ℕ → Bool
-linkClear ws = cond (eqb (word ws 206) 0) (zeros ws 207 4) true
+linkClear ws = cond (eqb (word ws leftAt) 0) (zeros ws linkAt 4) true
 
 -- The lengths of the queues with numbers `tag` and up, of which there are n, are 0.
 unfoldable pub emptyFrom : List ℕ → ℕ → ℕ → Bool
-emptyFrom ws tag n = every (λ w. eqb w 0) (series (λ k. word ws (211 + placeOf (turnsAt ws) k)) 1 tag n)
+emptyFrom ws tag n = every (λ w. eqb w 0) (series (λ k. word ws (lengthsAt + placeOf (turnsAt ws) k)) 1 tag n)
 
 -- The places of no tag have no packet.
 unfoldable pub untaggedEmpty : List ℕ → Bool
@@ -47,12 +47,12 @@ SoundPromise entry r = r ≡ soundWords entry
 -- The numbers that sound words keep, as the inner functions ask them.
 pub record Fitting (ws : List ℕ) : Type 0 where
   pub enough : boxWords ≤ length ws
-  pub interval : 1 ≤ word ws 0
-  pub classes-least : 1 ≤ word ws 2
-  pub classes : word ws 2 ≤ 8
-  pub factors-clear : zeros ws (3 + word ws 2) (8 - word ws 2) ≡ true
-  pub rows : word ws 11 ≤ 32
-  pub rows-clear : zeros ws (12 + 6 * word ws 11) (192 - 6 * word ws 11) ≡ true
+  pub interval : 1 ≤ word ws intervalAt
+  pub classes-least : 1 ≤ word ws classesAt
+  pub classes : word ws classesAt ≤ 8
+  pub factors-clear : zeros ws (factorsAt + word ws classesAt) (8 - word ws classesAt) ≡ true
+  pub rows : word ws rowCountAt ≤ 32
+  pub rows-clear : zeros ws (rowsAt + 6 * word ws rowCountAt) (192 - 6 * word ws rowCountAt) ≡ true
   pub link-clear : linkClear ws ≡ true
   pub largest : largestFactor (settingsAt ws) ≤ 63
   pub untagged : untaggedEmpty ws ≡ true
@@ -61,9 +61,9 @@ pub record Fitting (ws : List ℕ) : Type 0 where
 -- The tables of settings and connections keep what the test of a packet asks: every row's class has a factor.
 pub record Tables (ws : List ℕ) : Type 0 where
   pub enough : boxWords ≤ length ws
-  pub interval : 1 ≤ word ws 0
-  pub classes-least : 1 ≤ word ws 2
-  pub classes : word ws 2 ≤ 8
-  pub rows : word ws 11 ≤ 32
-  pub class-least : (i : ℕ) → i < word ws 11 → 1 ≤ word ws (12 + 6 * i)
-  pub class-most : (i : ℕ) → i < word ws 11 → word ws (12 + 6 * i) ≤ word ws 2
+  pub interval : 1 ≤ word ws intervalAt
+  pub classes-least : 1 ≤ word ws classesAt
+  pub classes : word ws classesAt ≤ 8
+  pub rows : word ws rowCountAt ≤ 32
+  pub class-least : (i : ℕ) → i < word ws rowCountAt → 1 ≤ word ws (rowsAt + 6 * i)
+  pub class-most : (i : ℕ) → i < word ws rowCountAt → word ws (rowsAt + 6 * i) ≤ word ws classesAt

@@ -7,35 +7,37 @@ use lib.Dec.{leb, ltb, eqb}
 use Rattle.laws.specs.Tests.{every, everyBelow}
 use Rattle.meaning.specs.Numbers.{largestFactor, settingsAllowed, connectionAllowed, mostConnections, mostWaiting, lastSlot}
 use Rattle.meaning.specs.Envelope.{allowanceKept}
-use Rattle.meaning.specs.Box.{Box, Packet, Standing, packetKept, rankIn}
-use Rattle.words.specs.Places.{boxWords, word, lengthsBelow, tagOf}
+use Rattle.meaning.specs.declared.Packet.{Packet}
+use Rattle.meaning.specs.declared.Standing.{Standing}
+use Rattle.meaning.specs.Box.{Box, packetKept, rankIn}
+use Rattle.words.specs.Places.{boxWords, word, lengthsBelow, tagOf, classesAt, factorsAt, rowCountAt, rowsAt, counterAt, acceptedAt, leftAt, linkAt}
 use Rattle.words.specs.Contents.{contents, settingsAt, standings, packetAt, turnsAt, queueAt}
 use Rattle.words.specs.Sound.{zeros}
 
 -- The settings are allowed, and the factors that are not used are 0.
 unfoldable pub settingsTested : List ℕ → Bool
-settingsTested ws = leb (word ws 2) 8 && settingsAllowed (settingsAt ws) && zeros ws (3 + word ws 2) (8 - word ws 2)
+settingsTested ws = leb (word ws classesAt) 8 && settingsAllowed (settingsAt ws) && zeros ws (factorsAt + word ws classesAt) (8 - word ws classesAt)
 
 -- A connection's row is allowed, and its allowance is in range.
 unfoldable pub rowKept : List ℕ → Standing → Bool
-rowKept ws s = connectionAllowed (settingsAt ws) (s .asked) && allowanceKept (s .asked) (word ws 204) (s .allowance)
+rowKept ws s = connectionAllowed (settingsAt ws) (s .asked) && allowanceKept (s .asked) (word ws counterAt) (s .allowance)
 
 -- At most 32 connections stand, each row is kept, and the rows that are not used are 0.
 unfoldable pub rowsTested : List ℕ → Bool
 rowsTested ws =
-    leb (word ws 11) mostConnections && every (rowKept ws) (standings ws) && zeros ws (12 + 6 * word ws 11) (192 - 6 * word ws 11)
+    leb (word ws rowCountAt) mostConnections && every (rowKept ws) (standings ws) && zeros ws (rowsAt + 6 * word ws rowCountAt) (192 - 6 * word ws rowCountAt)
 
 -- The link is free and its words are 0, or its packet is kept and has more units than are left.
 unfoldable pub linkTested : List ℕ → Bool
 linkTested ws =
-    cond (eqb (word ws 206) 0) (zeros ws 207 4) (packetKept (contents ws) (packetAt ws 207) && ltb (word ws 206) (word ws 209))
+    cond (eqb (word ws leftAt) 0) (zeros ws linkAt 4) (packetKept (contents ws) (packetAt ws linkAt) && ltb (word ws leftAt) (word ws (linkAt + 2)))
 
 -- The counter, the waiting packets and the count of accepted ones are in range.
 unfoldable pub countsTested : List ℕ → Bool
 countsTested ws =
-    leb (word ws 204) lastSlot &&
+    leb (word ws counterAt) lastSlot &&
     leb (lengthsBelow ws 64) mostWaiting &&
-    leb (word ws 205) (word ws 204 + (lengthsBelow ws 64 + cond (eqb (word ws 206) 0) 0 1))
+    leb (word ws acceptedAt) (word ws counterAt + (lengthsBelow ws 64 + cond (eqb (word ws leftAt) 0) 0 1))
 
 -- A packet's serial is above the one before it, the packet is kept, and it has this rank.
 unfoldable pub packetFits : Box → ℕ → ℕ → Packet → Bool

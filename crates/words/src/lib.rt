@@ -4,6 +4,7 @@ pub mod numbers;
 pub mod opening;
 pub mod packets;
 pub mod parts;
+pub mod places;
 pub mod queues;
 pub mod rows;
 pub mod settings;

@@ -1,7 +1,23 @@
 // Moving packets within the words, four words at a time.
+use meaning::Packet;
+ghost use mathlib.Core.Path.{_≡_};
 ghost use Prim.Native.Nat.{_+_, _≤_};
 ghost use lib.ListN.{length};
+ghost use Rattle.words.specs.Contents.{packetAt};
 ghost use Rattle.words.specs.Changes.{MovedUp, MovedDown, PacketPut};
+
+// The packet that starts at word `at`.
+pub(crate) fn read_packet(ws: &[u32], at: usize) -> Packet
+    requires { ⌜ at + 4 ≤ length (now ws) ⌝ }
+    ensures { λ r. ⌜ r ≡ packetAt (now (ws .entry)) at ⌝ }
+{
+    Packet {
+        serial: ws[at],
+        connection: ws[at + 1],
+        units: ws[at + 2],
+        arrival: ws[at + 3],
+    }
+}
 
 // The words from index `from` up to, not including, index `to` move four places up.
 pub(crate) fn move_up(ws: &mut [u32], from: usize, to: usize)
@@ -30,19 +46,12 @@ pub(crate) fn move_down(ws: &mut [u32], from: usize, to: usize)
 }
 
 // A packet is written at word `at`.
-pub(crate) fn write_packet(
-    ws: &mut [u32],
-    at: usize,
-    serial: u32,
-    connection: u32,
-    units: u32,
-    arrival: u32,
-)
+pub(crate) fn write_packet(ws: &mut [u32], at: usize, p: Packet)
     requires { ⌜ at + 4 ≤ length (now ws) ⌝ }
-    ensures { λ _. ⌜ PacketPut (now (ws .entry)) (now (ws .exit)) at (record { serial = serial; connection = connection; units = units; arrival = arrival }) ⌝ }
+    ensures { λ _. ⌜ PacketPut (now (ws .entry)) (now (ws .exit)) at p ⌝ }
 {
-    ws[at] = serial;
-    ws[at + 1] = connection;
-    ws[at + 2] = units;
-    ws[at + 3] = arrival;
+    ws[at] = p.serial;
+    ws[at + 1] = p.connection;
+    ws[at + 2] = p.units;
+    ws[at + 3] = p.arrival;
 }

@@ -1,4 +1,10 @@
 // Opening a box in lent words.
+use crate::places::BOX_WORDS;
+use crate::places::CLASSES_AT;
+use crate::places::CYCLE_AT;
+use crate::places::FACTORS_AT;
+use crate::places::INTERVAL_AT;
+use crate::places::PACKETS_AT;
 use crate::settings::settings_allowed;
 use meaning::Opened;
 ghost use mathlib.Core.Path.{_≡_};
@@ -6,6 +12,7 @@ ghost use mathlib.Core.List.{_++_};
 ghost use Prim.Native.Nat.{_+_, _≤_};
 ghost use lib.ListN.{length, take, drop};
 ghost use Rattle.words.specs.Opening.{cleared, OpenPromise};
+ghost use Rattle.words.specs.Places.{factorsAt};
 
 // The first n words become 0.
 fn clear(ws: &mut [u32], n: usize)
@@ -21,12 +28,12 @@ fn clear(ws: &mut [u32], n: usize)
 
 // The factors stand from word 3 on.
 fn write_factors(ws: &mut [u32], factors: &[u32])
-    requires { ⌜ 3 + length (now factors) ≤ length (now ws) ⌝ }
-    ensures { λ _. ⌜ now (ws .exit) ≡ take 3 (now (ws .entry)) ++ now (factors .entry) ++ drop (3 + length (now (factors .entry))) (now (ws .entry)) ⌝ }
+    requires { ⌜ factorsAt + length (now factors) ≤ length (now ws) ⌝ }
+    ensures { λ _. ⌜ now (ws .exit) ≡ take factorsAt (now (ws .entry)) ++ now (factors .entry) ++ drop (factorsAt + length (now (factors .entry))) (now (ws .entry)) ⌝ }
 {
     let mut i = 0;
     while i < factors.len() {
-        ws[3 + i] = factors[i];
+        ws[FACTORS_AT + i] = factors[i];
         i += 1;
     }
 }
@@ -38,13 +45,13 @@ pub fn open(ws: &mut [u32], d: u32, m: u32, factors: &[u32]) -> Opened
     if !settings_allowed(d, m, factors) {
         return Opened::OffRange;
     }
-    if ws.len() < 4371 {
+    if ws.len() < BOX_WORDS {
         return Opened::TooShort;
     }
-    clear(ws, 275);
-    ws[0] = d;
-    ws[1] = m;
-    ws[2] = factors.len() as u32;
+    clear(ws, PACKETS_AT);
+    ws[INTERVAL_AT] = d;
+    ws[CYCLE_AT] = m;
+    ws[CLASSES_AT] = factors.len() as u32;
     write_factors(ws, factors);
     Opened::Done
 }

@@ -2,6 +2,16 @@
 use crate::numbers::are_zero;
 use crate::numbers::is_within;
 use crate::numbers::wide;
+use crate::places::ACCEPTED_AT;
+use crate::places::COUNTER_AT;
+use crate::places::FACTORS_BEFORE;
+use crate::places::INTERVAL_AT;
+use crate::places::LEFT_AT;
+use crate::places::LINK_AT;
+use crate::places::LINK_END;
+use crate::places::LINK_UNITS_AT;
+use crate::places::ROW_COUNT_AT;
+use crate::places::ROWS_BEFORE;
 ghost use mathlib.Core.Path.{_≡_};
 ghost use mathlib.Core.Bool.{true};
 ghost use Prim.Native.Nat.{_+_, _*_, _≤_, _<_};
@@ -18,17 +28,17 @@ fn packet_kept(ws: &[u32], at: usize) -> bool
     requires { ⌜ Tables (now ws) × (at + 4 ≤ length (now ws)) ⌝ }
     ensures { λ r. ⌜ r ≡ packetKept (contents (now (ws .entry))) (packetAt (now (ws .entry)) at) ⌝ }
 {
-    if !is_within(1, ws[at], ws[205]) {
+    if !is_within(1, ws[at], ws[ACCEPTED_AT]) {
         return false;
     }
     let connection = ws[at + 1];
-    if !is_within(1, connection, ws[11]) {
+    if !is_within(1, connection, ws[ROW_COUNT_AT]) {
         return false;
     }
-    if !is_within(1, ws[at + 2], ws[1 + 6 * (1 + wide(connection))]) {
+    if !is_within(1, ws[at + 2], ws[1 + (ROWS_BEFORE + 6 * wide(connection))]) {
         return false;
     }
-    ws[at + 3] <= ws[204]
+    ws[at + 3] <= ws[COUNTER_AT]
 }
 
 // The rank that the arrival slot and the class of the packet at this word give.
@@ -37,8 +47,8 @@ fn rank_of(ws: &[u32], at: usize) -> usize
     requires { ⌜ packetKept (contents (now ws)) (packetAt (now ws) at) ≡ true ⌝ }
     ensures { λ r. ⌜ r ≡ rankIn (contents (now (ws .entry))) (packetAt (now (ws .entry)) at) ⌝ }
 {
-    let class = wide(ws[6 * (1 + wide(ws[at + 1]))]);
-    wide(ws[at + 3] / ws[0]) + wide(ws[2 + class])
+    let class = wide(ws[ROWS_BEFORE + 6 * wide(ws[at + 1])]);
+    wide(ws[at + 3] / ws[INTERVAL_AT]) + wide(ws[FACTORS_BEFORE + class])
 }
 
 // The packet at this word fits in a queue of this rank, after a packet of the serial `before`.
@@ -79,12 +89,12 @@ pub(crate) fn link_tested(ws: &[u32]) -> bool
     requires { ⌜ Tables (now ws) ⌝ }
     ensures { λ r. ⌜ r ≡ linkTested (now (ws .entry)) ⌝ }
 {
-    let left = ws[206];
+    let left = ws[LEFT_AT];
     if left == 0 {
-        return are_zero(ws, 207, 211);
+        return are_zero(ws, LINK_AT, LINK_END);
     }
-    if !packet_kept(ws, 207) {
+    if !packet_kept(ws, LINK_AT) {
         return false;
     }
-    left < ws[209]
+    left < ws[LINK_UNITS_AT]
 }

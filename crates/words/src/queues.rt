@@ -1,12 +1,17 @@
 // The queues in words: which has a packet, joining a tail, taking a head, and the turn.
 use crate::moves::move_down;
 use crate::moves::move_up;
+use crate::moves::read_packet;
 use crate::moves::write_packet;
 use crate::numbers::lengths_below;
 use crate::numbers::wide;
 use crate::parts::write_link;
+use crate::places::LEFT_AT;
+use crate::places::LENGTHS_AT;
+use crate::places::PACKETS_AT;
 use crate::soundness::largest_factor;
 use crate::soundness::turns;
+use meaning::Packet;
 ghost use mathlib.Core.Path.{_≡_};
 ghost use mathlib.Core.Bool.{true};
 ghost use Prim.Native.Nat.{suc, _+_, _*_, _≤_, _<_};
@@ -15,7 +20,7 @@ ghost use mathlib.Core.List.{[]};
 ghost use Rattle.meaning.specs.Numbers.{largestFactor};
 ghost use Rattle.meaning.specs.Queues.{joinTail, tagZeroWaits};
 ghost use Rattle.meaning.specs.Step.{queuesTaken};
-ghost use Rattle.words.specs.Places.{word, lengthsBelow, placeOf};
+ghost use Rattle.words.specs.Places.{word, lengthsBelow, placeOf, leftAt, lengthsAt};
 ghost use Rattle.words.specs.Contents.{contents, turnsAt};
 ghost use Rattle.words.specs.Sound.{Fitting, soundWords};
 ghost use Rattle.words.specs.Changes.{Become, loadedBox, lowestTag, withQueues};
@@ -33,7 +38,7 @@ pub fn waiting_at(ws: &[u32], tag: usize) -> usize
     requires { ⌜ Fitting (now ws) × (tag ≤ largestFactor (contents (now ws) .settings)) ⌝ }
     ensures { λ r. ⌜ r ≡ length (getD (contents (now (ws .entry)) .queues) tag []) ⌝ }
 {
-    wide(ws[211 + place_of(ws, tag)])
+    wide(ws[LENGTHS_AT + place_of(ws, tag)])
 }
 
 // The tag of the lowest-tagged queue that has a packet, or the number of queues where none has.
@@ -53,28 +58,28 @@ pub fn lowest_tag(ws: &[u32]) -> usize
 }
 
 // A packet joins the tail of the queue with this tag.
-pub fn join(ws: &mut [u32], tag: usize, serial: u32, connection: u32, units: u32, arrival: u32)
+pub fn join(ws: &mut [u32], tag: usize, p: Packet)
     requires { ⌜ Fitting (now ws) × (tag ≤ largestFactor (contents (now ws) .settings)) × (lengthsBelow (now ws) 64 < 1024) ⌝ }
-    ensures { λ _. ⌜ Become (now (ws .entry)) (now (ws .exit)) (withQueues (contents (now (ws .entry))) (joinTail tag (record { serial = serial; connection = connection; units = units; arrival = arrival }) (contents (now (ws .entry)) .queues))) ⌝ }
+    ensures { λ _. ⌜ Become (now (ws .entry)) (now (ws .exit)) (withQueues (contents (now (ws .entry))) (joinTail tag p (contents (now (ws .entry)) .queues))) ⌝ }
 {
     let place = place_of(ws, tag);
-    let end = 275 + 4 * lengths_below(ws, 64);
-    let at = 275 + 4 * lengths_below(ws, place + 1);
+    let end = PACKETS_AT + 4 * lengths_below(ws, 64);
+    let at = PACKETS_AT + 4 * lengths_below(ws, place + 1);
     move_up(ws, at, end);
-    write_packet(ws, at, serial, connection, units, arrival);
-    ws[211 + place] = ws[211 + place] + 1;
+    write_packet(ws, at, p);
+    ws[LENGTHS_AT + place] = ws[LENGTHS_AT + place] + 1;
 }
 
 // The head of the queue with this tag is taken away.
 fn behead(ws: &mut [u32], tag: usize)
-    requires { ⌜ Fitting (now ws) × (tag ≤ largestFactor (contents (now ws) .settings)) × (1 ≤ word (now ws) (211 + placeOf (turnsAt (now ws)) tag)) ⌝ }
+    requires { ⌜ Fitting (now ws) × (tag ≤ largestFactor (contents (now ws) .settings)) × (1 ≤ word (now ws) (lengthsAt + placeOf (turnsAt (now ws)) tag)) ⌝ }
     ensures { λ _. ⌜ Become (now (ws .entry)) (now (ws .exit)) (withQueues (contents (now (ws .entry))) (set (contents (now (ws .entry)) .queues) tag (drop 1 (getD (contents (now (ws .entry)) .queues) tag [])))) ⌝ }
 {
     let place = place_of(ws, tag);
-    let end = 275 + 4 * lengths_below(ws, 64);
-    let at = 275 + 4 * lengths_below(ws, place);
+    let end = PACKETS_AT + 4 * lengths_below(ws, 64);
+    let at = PACKETS_AT + 4 * lengths_below(ws, place);
     move_down(ws, at, end);
-    ws[211 + place] = ws[211 + place] - 1;
+    ws[LENGTHS_AT + place] = ws[LENGTHS_AT + place] - 1;
 }
 
 // The step would turn the queues while tag 0 still has a packet, once the head of this step is taken.
@@ -83,7 +88,7 @@ pub fn tag_zero_waits(ws: &[u32]) -> bool
     ensures { λ r. ⌜ r ≡ tagZeroWaits (queuesTaken (contents (now (ws .entry)) .link) (contents (now (ws .entry)) .queues)) ⌝ }
 {
     let count = waiting_at(ws, 0);
-    if ws[206] == 0 {
+    if ws[LEFT_AT] == 0 {
         return 1 < count;
     }
     0 < count
@@ -91,16 +96,13 @@ pub fn tag_zero_waits(ws: &[u32]) -> bool
 
 // The head of the queue with this tag goes onto the link.
 fn load_from(ws: &mut [u32], tag: usize)
-    requires { ⌜ (soundWords (now ws) ≡ true) × (tag ≡ lowestTag (contents (now ws) .queues)) × (tag ≤ largestFactor (contents (now ws) .settings)) × (word (now ws) 206 ≡ 0) ⌝ }
+    requires { ⌜ (soundWords (now ws) ≡ true) × (tag ≡ lowestTag (contents (now ws) .queues)) × (tag ≤ largestFactor (contents (now ws) .settings)) × (word (now ws) leftAt ≡ 0) ⌝ }
     ensures { λ _. ⌜ Become (now (ws .entry)) (now (ws .exit)) (loadedBox (contents (now (ws .entry)))) ⌝ }
 {
-    let at = 275 + 4 * lengths_below(ws, place_of(ws, tag));
-    let serial = ws[at];
-    let connection = ws[at + 1];
-    let units = ws[at + 2];
-    let arrival = ws[at + 3];
+    let at = PACKETS_AT + 4 * lengths_below(ws, place_of(ws, tag));
+    let head = read_packet(ws, at);
     behead(ws, tag);
-    write_link(ws, units, serial, connection, units, arrival);
+    write_link(ws, head.units, head);
 }
 
 // If the link is free, the head of the lowest-tagged queue that has a packet goes onto it.
@@ -108,7 +110,7 @@ pub fn load_link(ws: &mut [u32])
     requires { ⌜ soundWords (now ws) ≡ true ⌝ }
     ensures { λ _. ⌜ Become (now (ws .entry)) (now (ws .exit)) (loadedBox (contents (now (ws .entry)))) ⌝ }
 {
-    if ws[206] != 0 {
+    if ws[LEFT_AT] != 0 {
         return;
     }
     let tag = lowest_tag(ws);

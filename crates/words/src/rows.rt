@@ -2,13 +2,19 @@
 use crate::numbers::are_zero;
 use crate::numbers::is_within;
 use crate::numbers::wide;
+use crate::places::CLASSES_AT;
+use crate::places::COUNTER_AT;
+use crate::places::CYCLE_AT;
+use crate::places::ROW_COUNT_AT;
+use crate::places::ROWS_AT;
+use crate::places::ROWS_END;
 ghost use mathlib.Core.Path.{_≡_};
 ghost use mathlib.Core.Bool.{true};
 ghost use Prim.Native.Nat.{_+_, _≤_};
 ghost use lib.ListN.{length};
 ghost use Rattle.laws.specs.Tests.{every};
 ghost use Rattle.meaning.specs.Envelope.{allowanceKept};
-ghost use Rattle.words.specs.Places.{word};
+ghost use Rattle.words.specs.Places.{word, rowCountAt, boxWords};
 ghost use Rattle.words.specs.Contents.{standingAt, standings};
 ghost use Rattle.words.specs.Tested.{rowKept, rowsTested};
 
@@ -33,10 +39,10 @@ fn allowance_kept(burst: u32, period: u32, counter: u32, next: u32, credit: u32)
 
 // The row that starts at this word is one of a connection that may stand.
 fn row_kept(ws: &[u32], at: usize) -> bool
-    requires { ⌜ (4371 ≤ length (now ws)) × (at + 6 ≤ length (now ws)) ⌝ }
+    requires { ⌜ (boxWords ≤ length (now ws)) × (at + 6 ≤ length (now ws)) ⌝ }
     ensures { λ r. ⌜ r ≡ rowKept (now (ws .entry)) (standingAt (now (ws .entry)) at) ⌝ }
 {
-    if !is_within(1, ws[at], ws[2]) {
+    if !is_within(1, ws[at], ws[CLASSES_AT]) {
         return false;
     }
     if !is_within(1, ws[at + 1], 64) {
@@ -46,7 +52,7 @@ fn row_kept(ws: &[u32], at: usize) -> bool
     if !is_within(1, burst, 64) {
         return false;
     }
-    let cycle = ws[1];
+    let cycle = ws[CYCLE_AT];
     let period = ws[at + 3];
     if !is_within(1, period, cycle) {
         return false;
@@ -54,16 +60,16 @@ fn row_kept(ws: &[u32], at: usize) -> bool
     if cycle % period != 0 {
         return false;
     }
-    allowance_kept(burst, period, ws[204], ws[at + 4], ws[at + 5])
+    allowance_kept(burst, period, ws[COUNTER_AT], ws[at + 4], ws[at + 5])
 }
 
 // Every row of a connection that stands is kept.
 fn rows_kept(ws: &[u32]) -> bool
-    requires { ⌜ (4371 ≤ length (now ws)) × (word (now ws) 11 ≤ 32) ⌝ }
+    requires { ⌜ (boxWords ≤ length (now ws)) × (word (now ws) rowCountAt ≤ 32) ⌝ }
     ensures { λ r. ⌜ r ≡ every (rowKept (now (ws .entry))) (standings (now (ws .entry))) ⌝ }
 {
-    let count = wide(ws[11]);
-    let mut at = 12;
+    let count = wide(ws[ROW_COUNT_AT]);
+    let mut at = ROWS_AT;
     let mut i = 0;
     while i < count {
         if !row_kept(ws, at) {
@@ -77,14 +83,14 @@ fn rows_kept(ws: &[u32]) -> bool
 
 // At most 32 connections stand, their rows are kept, and the rows that are not used are 0.
 pub(crate) fn rows_tested(ws: &[u32]) -> bool
-    requires { ⌜ 4371 ≤ length (now ws) ⌝ }
+    requires { ⌜ boxWords ≤ length (now ws) ⌝ }
     ensures { λ r. ⌜ r ≡ rowsTested (now (ws .entry)) ⌝ }
 {
-    if 32 < ws[11] {
+    if 32 < ws[ROW_COUNT_AT] {
         return false;
     }
     if !rows_kept(ws) {
         return false;
     }
-    are_zero(ws, 12 + 6 * wide(ws[11]), 204)
+    are_zero(ws, ROWS_AT + 6 * wide(ws[ROW_COUNT_AT]), ROWS_END)
 }

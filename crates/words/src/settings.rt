@@ -2,12 +2,18 @@
 use crate::numbers::are_zero;
 use crate::numbers::is_within;
 use crate::numbers::wide;
+use crate::places::CLASSES_AT;
+use crate::places::CYCLE_AT;
+use crate::places::FACTORS_AT;
+use crate::places::FACTORS_END;
+use crate::places::INTERVAL_AT;
 ghost use mathlib.Core.Path.{_≡_};
 ghost use Prim.Native.Nat.{_≤_};
 ghost use lib.ListN.{length};
 ghost use Rattle.meaning.specs.Numbers.{risingAbove, settingsAllowed};
 ghost use Rattle.words.specs.Opening.{asked};
 ghost use Rattle.words.specs.Tested.{settingsTested};
+ghost use Rattle.words.specs.Places.{boxWords};
 
 // Each factor is above the one before it, and the first above 0.
 fn factors_rise(factors: &[u32]) -> bool
@@ -54,16 +60,16 @@ pub fn settings_allowed(d: u32, m: u32, factors: &[u32]) -> bool
 
 // The settings in words are allowed, and the factors that are not used are 0.
 pub(crate) fn settings_tested(ws: &[u32]) -> bool
-    requires { ⌜ 4371 ≤ length (now ws) ⌝ }
+    requires { ⌜ boxWords ≤ length (now ws) ⌝ }
     ensures { λ r. ⌜ r ≡ settingsTested (now (ws .entry)) ⌝ }
 {
-    let count = wide(ws[2]);
+    let count = wide(ws[CLASSES_AT]);
     if 8 < count {
         return false;
     }
-    let end = 3 + count;
-    if !settings_allowed(ws[0], ws[1], &ws[3..end]) {
+    let end = FACTORS_AT + count;
+    if !settings_allowed(ws[INTERVAL_AT], ws[CYCLE_AT], &ws[FACTORS_AT..end]) {
         return false;
     }
-    are_zero(ws, end, 11)
+    are_zero(ws, end, FACTORS_END)
 }

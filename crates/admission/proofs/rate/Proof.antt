@@ -4,8 +4,8 @@ use mathlib.Core.Path.{_≡_, ap, _∙_}
 use native.Mathlib.Numerals.{add-one}
 use native.Mathlib.Omega.{arith}
 use Rattle.laws.specs.Sums.{sumOf}
-use Rattle.words.specs.Places.{word}
-use Rattle.admission.specs.Asking.{connectionOf, askedAt, withAsked}
+use Rattle.words.specs.Places.{word, cycleAt, rowCountAt}
+use Rattle.admission.specs.Asking.{askedAt, withAsked}
 use Rattle.admission.proofs.Tables.{asked-small, row-allowed}
 use Rattle.admission.proofs.Rows.{rowsTo, rateTerm, sum-none, sum-next, sum-with, rate-is, rate-most}
 use Rattle.admission.proofs.rate.Statement.{statement}
@@ -33,13 +33,13 @@ div-sum c = let s = c .before .before .before .before in asked-small (s .args .w
 mul-sum : tie.Need-mul-sum Inv-loop μ-loop
 mul-sum c =
     let s = c .before .before .before .before .before in
-    omega (arith, rate-most (s .args .ws .now) (connectionOf (s .args .c)) (s .pre .0) (s .pre .1))
+    omega (arith, rate-most (s .args .ws .now) (s .args .c) (s .pre .0) (s .pre .1))
 
 loop-holds : tie.Need-loop-holds Inv-loop μ-loop
 loop-holds c =
     let s = c .before .before .before .before .before in
-    let z = sum-none (rateTerm (word (s .args .ws .now) 1)) (s .args .ws .now) in
-    (omega arith, omega arith, rate-most (s .args .ws .now) (connectionOf (s .args .c)) (s .pre .0) (s .pre .1))
+    let z = sum-none (rateTerm (word (s .args .ws .now) cycleAt)) (s .args .ws .now) in
+    (omega arith, omega arith, rate-most (s .args .ws .now) (s .args .c) (s .pre .0) (s .pre .1))
 
 asked-at-requires : tie.Need-asked-at-requires Inv-loop μ-loop
 asked-at-requires c κs =
@@ -55,11 +55,11 @@ div-sum-2 c =
 
 -- the row that was read adds at most 64 x 4,096
 row-most : (c : tie.After-struct-known4 Inv-loop μ-loop)
-    → rateTerm (word (c .before .before .before .before .before .before .before .before .before .before .args .ws .now) 1) (connectionOf (c .before .before .asked-at .result)) ≤ 262144
+    → rateTerm (word (c .before .before .before .before .before .before .before .before .before .before .args .ws .now) cycleAt) (c .before .before .asked-at .result) ≤ 262144
 row-most c =
     let s = c .before .before .before .before .before .before .before .before .before .before in
     let r = c .before .before .asked-at in
-    rate-most (s .args .ws .now) (connectionOf (r .result)) (s .pre .0)
+    rate-most (s .args .ws .now) (r .result) (s .pre .0)
     (row-allowed (s .args .ws .now) (c .before .before .before .before .loop .i) (r .result) (s .pre .0) (c .before .before .before .loop-test .taken) (r .ensures))
 
 mul-sum-2 : tie.Need-mul-sum-2 Inv-loop μ-loop
@@ -80,8 +80,8 @@ loop-again c =
     let l = c .before .before .before .before .loop in
     let r = c .before .before .asked-at in
     let ws = s .args .ws .now in
-    let n = sum-next (rateTerm (word ws 1)) ws (l .i) in
-    let e : rateTerm (word ws 1) (connectionOf (r .result)) ≡ rateTerm (word ws 1) (askedAt ws (l .i)) = ap (rateTerm (word ws 1)) (r .ensures) in
+    let n = sum-next (rateTerm (word ws cycleAt)) ws (l .i) in
+    let e : rateTerm (word ws cycleAt) (r .result) ≡ rateTerm (word ws cycleAt) (askedAt ws (l .i)) = ap (rateTerm (word ws cycleAt)) (r .ensures) in
     let m = row-most c in
     let i = l .inv .1 in
     let k = l .inv .2 in
@@ -92,11 +92,11 @@ returns c =
     let s = c .before .before .before .before .before .before .before in
     let ws = s .args .ws .now in
     let l = c .before .loop in
-    let i : l .i ≡ word ws 11 = omega (arith, l .inv .0, c .loop-test .left) in
-    let e : sumOf (rateTerm (word ws 1)) (rowsTo ws (l .i)) ≡ sumOf (rateTerm (word ws 1)) (rowsTo ws (word ws 11)) = ap (λ k. sumOf (rateTerm (word ws 1)) (rowsTo ws k)) i in
-    let w = sum-with (rateTerm (word ws 1)) ws (s .args .c) in
+    let i : l .i ≡ word ws rowCountAt = omega (arith, l .inv .0, c .loop-test .left) in
+    let e : sumOf (rateTerm (word ws cycleAt)) (rowsTo ws (l .i)) ≡ sumOf (rateTerm (word ws cycleAt)) (rowsTo ws (word ws rowCountAt)) = ap (λ k. sumOf (rateTerm (word ws cycleAt)) (rowsTo ws k)) i in
+    let w = sum-with (rateTerm (word ws cycleAt)) ws (s .args .c) in
     let v = l .inv .1 in
-    let a : l .sum ≡ sumOf (rateTerm (word ws 1)) (withAsked ws (s .args .c)) = omega arith in
+    let a : l .sum ≡ sumOf (rateTerm (word ws cycleAt)) (withAsked ws (s .args .c)) = omega arith in
     a ∙ rate-is ws (s .args .c)
 
 pub rate-spec : {M : Type 1} → statement M

@@ -1,10 +1,9 @@
 -- `admission::term_of` meets its contract.
 use Prim.Native.Nat.{_+_}
-use Rattle.words.specs.Places.{word}
+use Rattle.words.specs.Places.{word, intervalAt}
 use mathlib.Core.Path.{_∙_, ap}
 use native.Mathlib.Omega.{arith}
 use Rattle.meaning.specs.Envelope.{envelope, delayed}
-use Rattle.admission.specs.Asking.{connectionOf}
 use Rattle.admission.proofs.Tables.{interval-most, asked-small, asked-class, term-first, term-above}
 use borrow.Author.Needs.{needs}
 use Rattle.admission.proofs.term_of.Statement.{statement}
@@ -21,7 +20,7 @@ delayed-requires c κs =
 returns : tie.Need-returns
 returns c =
     let s = c .before .before .before .before in
-    let k = connectionOf (s .args .c) in (
+    let k = (s .args .c) in (
       c .delayed .ensures .0 ∙ ap (λ d. delayed (envelope k) d (s .args .t)) (c .before .before .bound-of .ensures .0) ∙
           term-first (s .args .ws .now) k (s .args .t) (c .before .if1 .taken),
       c .delayed .ensures .1,
@@ -41,8 +40,8 @@ delayed-requires-2 c κs =
 returns-2 : tie.Need-returns-2
 returns-2 c =
     let s = c .before .before .before .before .before in
-    let k = connectionOf (s .args .c) in (
-      c .delayed2 .ensures .0 ∙ ap (λ d. delayed (envelope k) d (s .args .t + word (s .args .ws .now) 0)) (c .before .before .before .bound-of .ensures .0) ∙
+    let k = (s .args .c) in (
+      c .delayed2 .ensures .0 ∙ ap (λ d. delayed (envelope k) d (s .args .t + word (s .args .ws .now) intervalAt)) (c .before .before .before .bound-of .ensures .0) ∙
           term-above (s .args .ws .now) k (s .args .t) (c .before .before .if1 .left),
       c .delayed2 .ensures .1,
     )

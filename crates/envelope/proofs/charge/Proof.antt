@@ -39,10 +39,10 @@ use denote.Triple.Table.{entered, cited}
 use denote.Triple.Walked.{says, needs, Stays, stay-ref, stay-none, walkOf, AllGo, goes-none, goes-ref, Walks, ends-at, walked, walk-meets}
 use denote.Exit.{yes}
 use denote.Triple.Clauses.{ensured, lasts}
-use Rattle.envelope.specs.declared.Allowance.{Allowance}
+use Rattle.meaning.specs.declared.Allowance.{Allowance}
 use Rattle.envelope.proofs.Charges.{Asks, Says}
-use Rattle.envelope.proofs.Allowance as T
-use Rattle.envelope.proofs.Allowance.Laws as T′
+use Rattle.meaning.proofs.Allowance as T
+use Rattle.meaning.proofs.Allowance.Laws as T′
 use Rattle.envelope.proofs.charged as charged
 use Rattle.envelope.proofs.charged.Symbol as charged-def
 use Rattle.envelope.proofs.charged.Symbol.{name as #envelope·charged}

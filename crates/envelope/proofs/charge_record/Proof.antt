@@ -41,10 +41,10 @@ use denote.Triple.Table.{entered, cited}
 use denote.Triple.Walked.{says, needs, Stays, stay-none, walkOf, AllGo, goes-none, Walks, ends-at, walked, walk-meets}
 use denote.Exit.{yes}
 use denote.Triple.Clauses.{ensured, lasts}
-use Rattle.envelope.specs.declared.Allowance.{Allowance}
+use Rattle.meaning.specs.declared.Allowance.{Allowance}
 use Rattle.envelope.proofs.Charges.{Asks, Says}
-use Rattle.envelope.proofs.Allowance as T
-use Rattle.envelope.proofs.Allowance.Laws as T′
+use Rattle.meaning.proofs.Allowance as T
+use Rattle.meaning.proofs.Allowance.Laws as T′
 use Rattle.envelope.proofs.charge as charge
 use Rattle.envelope.proofs.charge.Symbol as charge-def
 use Rattle.envelope.proofs.charge.Symbol.{name as #envelope·charge}

@@ -2,7 +2,6 @@
 use borrow.Author.Needs.{needs}
 use mathlib.Core.Path.{refl, ap}
 use Rattle.meaning.specs.Plan.{arrivalWords}
-use Rattle.plan.specs.Parts.{arrivalOf}
 use Rattle.cabinet.proofs.plans.zeppilorn_arrival.Statement.{statement}
 use Rattle.cabinet.proofs.plans.zeppilorn_arrival.Tie as tie
 
@@ -10,7 +9,7 @@ arrival-requires : tie.Need-arrival-requires
 arrival-requires c κs = search needs
 
 returns : tie.Need-returns
-unfolding arrivalWords arrivalOf
+unfolding arrivalWords
 returns c = (refl, ap arrivalWords (c .before .arrival .ensures))
 
 pub zeppilorn-arrival-spec : {M : Type 1} → statement M

@@ -2,7 +2,6 @@
 use borrow.Author.Needs.{needs}
 use mathlib.Core.Path.{refl, ap}
 use Rattle.meaning.specs.Plan.{connectionWords}
-use Rattle.plan.specs.Parts.{connectionOf}
 use Rattle.cabinet.proofs.plans.zeppilorn_connection.Statement.{statement}
 use Rattle.cabinet.proofs.plans.zeppilorn_connection.Tie as tie
 
@@ -10,7 +9,7 @@ connection-requires : tie.Need-connection-requires
 connection-requires c κs = search needs
 
 returns : tie.Need-returns
-unfolding connectionWords connectionOf
+unfolding connectionWords
 returns c = (refl, ap connectionWords (c .before .connection .ensures))
 
 pub zeppilorn-connection-spec : {M : Type 1} → statement M

@@ -16,7 +16,7 @@ use Rattle.words.specs.Contents.{contents}
 use Rattle.words.proofs.Counts.{sound-fitting}
 use Rattle.words.proofs.TestedSound.{sound-contents}
 use Rattle.admission.specs.declared.Found.{Found}
-use Rattle.admission.specs.Asking.{connectionOf, searchOf}
+use Rattle.admission.specs.Asking.{searchOf}
 use Rattle.multiplexer.proofs.Admits.{ready, standing-word, newcomer, settings-are, cycle-word, answer-range, answer-full, answer-rate, answer-search, refused, taken}
 use Rattle.multiplexer.proofs.admitting.admit_sound.Statement.{statement}
 use Rattle.multiplexer.proofs.admitting.admit_sound.Tie as tie
@@ -32,7 +32,7 @@ unfolding afterAdmission
 returns c =
     let s = c .before .before .before .before in
     let ws = s .args .ws .now in
-    let a = connectionOf (s .args .c) in
+    let a = (s .args .c) in
     let e = sym (c .before .allowed .ensures) ∙ not-true (c .before .allowed .result) (c .if1 .taken) in
     refused ws a (s .pre) Admitted.OffRange (answer-range (contents ws) a (sound-contents ws (s .pre)) e) refl
 
@@ -47,7 +47,7 @@ unfolding afterAdmission
 returns-2 c =
     let s = c .before .before .before .before .before .before .before in
     let ws = s .args .ws .now in
-    let a = connectionOf (s .args .c) in
+    let a = (s .args .c) in
     let good : connectionAllowed (contents ws .settings) a ≡ true = sym (c .before .before .before .before .allowed .ensures) ∙ not-false (c .before .before .before .before .allowed .result) (c .before .before .before .if1 .left) in
     let many : mostConnections ≤ length (contents ws .standing) = omega (arith, c .before .standing-count .ensures, c .if2 .taken) in
     refused ws a (s .pre) Admitted.TableFull (answer-full (contents ws) a (sound-contents ws (s .pre)) good many) refl
@@ -57,7 +57,7 @@ unfolding contents
 rate-requires c κs =
     let s = c .before .before .before .before .before .before .before .before in
     let ws = s .args .ws .now in
-    let a = connectionOf (s .args .c) in
+    let a = (s .args .c) in
     let good : connectionAllowed (contents ws .settings) a ≡ true = sym (c .before .before .before .before .before .allowed .ensures) ∙ not-false (c .before .before .before .before .before .allowed .result) (c .before .before .before .before .if1 .left) in
     (ready ws (s .pre), good)
 
@@ -72,7 +72,7 @@ unfolding afterAdmission
 returns-3 c =
     let s = c .before .before .before .before .before .before .before .before .before .before .before in
     let ws = s .args .ws .now in
-    let a = connectionOf (s .args .c) in
+    let a = (s .args .c) in
     let good : connectionAllowed (contents ws .settings) a ≡ true = sym (c .before .before .before .before .before .before .before .before .allowed .ensures) ∙ not-false (c .before .before .before .before .before .before .before .before .allowed .result) (c .before .before .before .before .before .before .before .if1 .left) in
     let few : length (contents ws .standing) < mostConnections = omega (arith, c .before .before .before .before .before .standing-count .ensures, c .before .before .before .before .if2 .left) in
     let sum : c .before .before .rate .result ≡ rate (contents ws .settings) (withNewcomer (contents ws) a) = c .before .before .rate .ensures ∙ ap₂ rate (settings-are ws) (newcomer ws (s .args .c)) in
@@ -85,7 +85,7 @@ unfolding contents
 first-failing-requires c κs =
     let s = c .before .before .before .before .before .before .before .before .before .before .before .before in
     let ws = s .args .ws .now in
-    let a = connectionOf (s .args .c) in
+    let a = (s .args .c) in
     let good : connectionAllowed (contents ws .settings) a ≡ true = sym (c .before .before .before .before .before .before .before .before .before .allowed .ensures) ∙ not-false (c .before .before .before .before .before .before .before .before .before .allowed .result) (c .before .before .before .before .before .before .before .before .if1 .left) in
     (ready ws (s .pre), good)
 
@@ -102,7 +102,7 @@ append-row-requires : tie.Need-append-row-requires
 append-row-requires c κs =
     let s = c .before .before .before .before .before .before .before .before .before .before .before .before .before .before .before .before .before in
     let ws = s .args .ws .now in
-    let a = connectionOf (s .args .c) in
+    let a = (s .args .c) in
     let e = c .before .before .before .before .before .before .before .before .before .before .before .standing-count .ensures ∙ standing-word ws in
     (sound-fitting ws (s .pre), omega (arith, e, c .before .before .before .before .before .before .before .before .before .before .if2 .left))
 
@@ -117,7 +117,7 @@ unfolding afterAdmission searchAnswer
 returns-4 c =
     let s = c .before .before .before .before .before .before .before .before .before .before .before .before .before .before .before .before in
     let ws = s .args .ws .now in
-    let a = connectionOf (s .args .c) in
+    let a = (s .args .c) in
     let good : connectionAllowed (contents ws .settings) a ≡ true = sym (c .before .before .before .before .before .before .before .before .before .before .before .before .before .allowed .ensures) ∙ not-false (c .before .before .before .before .before .before .before .before .before .before .before .before .before .allowed .result) (c .before .before .before .before .before .before .before .before .before .before .before .before .if1 .left) in
     let few : length (contents ws .standing) < mostConnections = omega (arith, c .before .before .before .before .before .before .before .before .before .before .standing-count .ensures, c .before .before .before .before .before .before .before .before .before .if2 .left) in
     let sum : c .before .before .before .before .before .before .before .rate .result ≡ rate (contents ws .settings) (withNewcomer (contents ws) a) = c .before .before .before .before .before .before .before .rate .ensures ∙ ap₂ rate (settings-are ws) (newcomer ws (s .args .c)) in
@@ -137,7 +137,7 @@ unfolding searchAnswer
 returns-5 c =
     let s = c .before .before .before .before .before .before .before .before .before .before .before .before .before .before .before .before .before .before .before .before in
     let ws = s .args .ws .now in
-    let a = connectionOf (s .args .c) in
+    let a = (s .args .c) in
     let good : connectionAllowed (contents ws .settings) a ≡ true = sym (c .before .before .before .before .before .before .before .before .before .before .before .before .before .before .before .before .before .allowed .ensures) ∙ not-false (c .before .before .before .before .before .before .before .before .before .before .before .before .before .before .before .before .before .allowed .result) (c .before .before .before .before .before .before .before .before .before .before .before .before .before .before .before .before .if1 .left) in
     let few : length (contents ws .standing) < mostConnections = omega (arith, c .before .before .before .before .before .before .before .before .before .before .before .before .before .before .standing-count .ensures, c .before .before .before .before .before .before .before .before .before .before .before .before .before .if2 .left) in
     let sum : c .before .before .before .before .before .before .before .before .before .before .before .rate .result ≡ rate (contents ws .settings) (withNewcomer (contents ws) a) = c .before .before .before .before .before .before .before .before .before .before .before .rate .ensures ∙ ap₂ rate (settings-are ws) (newcomer ws (s .args .c)) in
@@ -149,7 +149,7 @@ returns-5 c =
     let one-more : c .before .before .before .before .before .before .before .before .before .before .before .before .before .before .standing-count .result + 1 ≡ suc (length (contents ws .standing)) = omega (arith, c .before .before .before .before .before .before .before .before .before .before .before .before .before .before .standing-count .ensures) in
     let row = c .before .before .before .fresh-row in
     let r = c .before .before .append-row in
-    taken ws a (s .pre) (r .last .0) (c .before .before .before .before .before .before .before .before .before .before .before .before .before .before .standing-count .result + 1) (row .result) (row .ensures .0) (row .ensures .1)
+    taken ws a (s .pre) (r .last .0) (c .before .before .before .before .before .before .before .before .before .before .before .before .before .before .standing-count .result + 1) (row .result) (row .ensures)
     (ap Admitted.Taken one-more ∙ answer-search (contents ws) a (sound-contents ws (s .pre)) holds (sym (ap searchOf e) ∙ q) good few low)
     (r .ensures)
 

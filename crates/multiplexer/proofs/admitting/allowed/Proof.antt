@@ -5,7 +5,7 @@ use native.Mathlib.Omega.{arith}
 use borrow.Author.Needs.{needs}
 use borrow.Author.Tests.{not-true, not-false}
 use Rattle.laws.specs.Tests.{within-facts}
-use Rattle.words.specs.Places.{word}
+use Rattle.words.specs.Places.{word, cycleAt}
 use Rattle.words.proofs.Counts.{sound-fitting}
 use Rattle.multiplexer.proofs.Admits.{class-off, longest-off, burst-off, period-off, divides}
 use Rattle.multiplexer.proofs.admitting.allowed.Statement.{statement}
@@ -62,7 +62,7 @@ rem-result c =
     let s = c .before .before .before .before .before .before .before .before .before .before .before in
     let ws = s .args .ws .now in
     let a = s .args .c in
-    let k : 1 ≤ a .period = within-facts 1 (a .period) (word ws 1) (sym (c .before .is-within4 .ensures) ∙ not-false (c .before .is-within4 .result) (c .if4 .left)) .0 in
+    let k : 1 ≤ a .period = within-facts 1 (a .period) (word ws cycleAt) (sym (c .before .is-within4 .ensures) ∙ not-false (c .before .is-within4 .result) (c .if4 .left)) .0 in
     omega arith
 
 returns-5 : tie.Need-returns-5

@@ -6,7 +6,7 @@ use Rattle.multiplexer.proofs.admitting.fresh_row.Tie as tie
 
 returns : tie.Need-returns
 unfolding full
-returns c = (refl, refl)
+returns c = refl
 
 pub fresh-row-spec : {M : Type 1} → statement M
 fresh-row-spec = tie.close (tie.spec returns)

@@ -3,13 +3,14 @@ use mathlib.Core.Path.{_≡_, sym, ap, subst, _∙_}
 use native.Mathlib.Numerals.{add-one}
 use Prim.Native.Nat.{suc}
 use native.Mathlib.Omega.{arith}
-use Rattle.meaning.specs.Envelope.{Allowance, conforms, charged as chargedIs}
+use Rattle.meaning.specs.declared.Allowance.{Allowance}
+use Rattle.meaning.specs.Envelope.{conforms, charged as chargedIs}
 use Rattle.meaning.specs.Queues.{joinTail}
 use Rattle.words.specs.Places.{word}
 use Rattle.words.specs.Contents.{contents}
 use Rattle.words.specs.Changes.{Become, withQueues}
 use Rattle.words.proofs.Counts.{sound-fitting}
-use Rattle.multiplexer.specs.Promised.{askedIn, allowanceIn, RowReady}
+use Rattle.multiplexer.specs.Promised.{RowReady}
 use Rattle.multiplexer.proofs.Offers.{packet-is, row-ready, class-within, accepted-most, envelope-ready, conforms-same, charged-same, number-within, join-ready, count-ready, accepted-becomes}
 use borrow.Author.Needs.{needs}
 use Rattle.multiplexer.proofs.offering.accept.Statement.{statement}
@@ -40,7 +41,7 @@ charge-record-requires c κs =
     let slot = c .before .before .before .before .counter in
     let r = row-ready ws (s .args .n) row (ok .sound-words) (ok .number-stands) (ok .row-asked) (ok .row-allowance) in (
       envelope-ready row (slot .result) (subst (RowReady row) (sym (slot .ensures)) r),
-      conforms-same row (allowanceIn row) (slot .result) ∙ ap (conforms (askedIn row) (allowanceIn row)) (slot .ensures) ∙ ok .fit,
+      conforms-same row (row .allowance) (slot .result) ∙ ap (conforms (row .asked) (row .allowance)) (slot .ensures) ∙ ok .fit,
     )
 
 write-allowance-requires : tie.Need-write-allowance-requires
@@ -105,8 +106,8 @@ returns c =
     let serial = c .before .before .before .before .before .before .before .before .before .before .before .before .before .before .before .accepted in
     let joins = subst (λ p. Become (wrote .last .0) (joined .last .0) (withQueues (contents (wrote .last .0)) (joinTail (tag .result) p (contents (wrote .last .0) .queues))))
     (packet-is ws n units (serial .result) (slot .result) (serial .ensures) (slot .ensures)) (joined .ensures) in
-    let e : a ≡ chargedIs (askedIn row) (allowanceIn row) (contents ws .counter) =
-    charged .ensures ∙ charged-same row (allowanceIn row) (slot .result) ∙ ap (chargedIs (askedIn row) (allowanceIn row)) (slot .ensures) in (
+    let e : a ≡ chargedIs (row .asked) (row .allowance) (contents ws .counter) =
+    charged .ensures ∙ charged-same row (row .allowance) (slot .result) ∙ ap (chargedIs (row .asked) (row .allowance)) (slot .ensures) in (
       add-one (serial .result) ∙ ap suc (serial .ensures),
       accepted-becomes ws n units row ok a (tag .result) (wrote .last .0) (wrote .ensures) (joined .last .0) joins e (tag .ensures .0) (tag .ensures .1) (counted .last .0) (counted .ensures),
     )

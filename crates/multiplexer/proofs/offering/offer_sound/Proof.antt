@@ -9,7 +9,7 @@ use Rattle.meaning.specs.Calls.{afterOffer}
 use Rattle.words.specs.Contents.{contents}
 use Rattle.words.proofs.Counts.{sound-fitting}
 use Rattle.words.proofs.TestedSound.{sound-contents}
-use Rattle.multiplexer.specs.Promised.{askedIn, allowanceIn, RowReady}
+use Rattle.multiplexer.specs.Promised.{RowReady}
 use Rattle.multiplexer.proofs.Offers.{stands-as, number-within, row-ready, answer-unknown, answer-length, answer-unfit, answer-full, answer-accepted, refused, taken}
 use borrow.Author.Needs.{needs}
 use Rattle.multiplexer.proofs.offering.offer_sound.Statement.{statement}
@@ -82,7 +82,7 @@ returns-3 c =
     let units = s .args .units in
     let row = c .before .before .before .before .before .before .read-row in
     refused ws n units (s .pre) Offered.NotFitting
-    (answer-unfit (contents ws) n units (sound-contents ws (s .pre)) (stands-as (contents ws) n (c .before .before .before .before .before .before .before .before .before .before .standing-count .result) (c .before .before .before .before .before .before .before .before .before .before .standing-count .ensures) (c .before .before .before .before .before .before .before .before .before .is-within .result) (c .before .before .before .before .before .before .before .before .before .is-within .ensures) (not-false (c .before .before .before .before .before .before .before .before .before .is-within .result) (c .before .before .before .before .before .before .before .before .if1 .left))) (ap (λ q. within 1 units (q .longest)) (row .ensures .0) ∙ sym (c .before .before .before .before .before .is-within2 .ensures) ∙ not-false (c .before .before .before .before .before .is-within2 .result) (c .before .before .before .before .if2 .left)) (ap₂ (λ q a. conforms q a (contents ws .counter)) (row .ensures .0) (row .ensures .1) ∙ (ap (conforms (askedIn (row .result)) (allowanceIn (row .result))) (sym (c .before .before .counter .ensures)) ∙ sym (c .before .fits2 .ensures) ∙ not-true (c .before .fits2 .result) (c .if3 .taken)))) refl
+    (answer-unfit (contents ws) n units (sound-contents ws (s .pre)) (stands-as (contents ws) n (c .before .before .before .before .before .before .before .before .before .before .standing-count .result) (c .before .before .before .before .before .before .before .before .before .before .standing-count .ensures) (c .before .before .before .before .before .before .before .before .before .is-within .result) (c .before .before .before .before .before .before .before .before .before .is-within .ensures) (not-false (c .before .before .before .before .before .before .before .before .before .is-within .result) (c .before .before .before .before .before .before .before .before .if1 .left))) (ap (λ q. within 1 units (q .longest)) (row .ensures .0) ∙ sym (c .before .before .before .before .before .is-within2 .ensures) ∙ not-false (c .before .before .before .before .before .is-within2 .result) (c .before .before .before .before .if2 .left)) (ap₂ (λ q a. conforms q a (contents ws .counter)) (row .ensures .0) (row .ensures .1) ∙ (ap (conforms (row .result .asked) (row .result .allowance)) (sym (c .before .before .counter .ensures)) ∙ sym (c .before .fits2 .ensures) ∙ not-true (c .before .fits2 .result) (c .if3 .taken)))) refl
 
 waiting-count-requires : tie.Need-waiting-count-requires
 waiting-count-requires c κs = let s = c .before .before .before .before .before .before .before .before .before .before .before .before .before .before in sound-fitting (s .args .ws .now) (s .pre)
@@ -99,7 +99,7 @@ returns-4 c =
     let units = s .args .units in
     let row = c .before .before .before .before .before .before .before .before .before .read-row in
     refused ws n units (s .pre) Offered.StoreFull
-    (answer-full (contents ws) n units (sound-contents ws (s .pre)) (stands-as (contents ws) n (c .before .before .before .before .before .before .before .before .before .before .before .before .before .standing-count .result) (c .before .before .before .before .before .before .before .before .before .before .before .before .before .standing-count .ensures) (c .before .before .before .before .before .before .before .before .before .before .before .before .is-within .result) (c .before .before .before .before .before .before .before .before .before .before .before .before .is-within .ensures) (not-false (c .before .before .before .before .before .before .before .before .before .before .before .before .is-within .result) (c .before .before .before .before .before .before .before .before .before .before .before .if1 .left))) (ap (λ q. within 1 units (q .longest)) (row .ensures .0) ∙ sym (c .before .before .before .before .before .before .before .before .is-within2 .ensures) ∙ not-false (c .before .before .before .before .before .before .before .before .is-within2 .result) (c .before .before .before .before .before .before .before .if2 .left)) (ap₂ (λ q a. conforms q a (contents ws .counter)) (row .ensures .0) (row .ensures .1) ∙ (ap (conforms (askedIn (row .result)) (allowanceIn (row .result))) (sym (c .before .before .before .before .before .counter .ensures)) ∙ sym (c .before .before .before .before .fits2 .ensures) ∙ not-false (c .before .before .before .before .fits2 .result) (c .before .before .before .if3 .left)))
+    (answer-full (contents ws) n units (sound-contents ws (s .pre)) (stands-as (contents ws) n (c .before .before .before .before .before .before .before .before .before .before .before .before .before .standing-count .result) (c .before .before .before .before .before .before .before .before .before .before .before .before .before .standing-count .ensures) (c .before .before .before .before .before .before .before .before .before .before .before .before .is-within .result) (c .before .before .before .before .before .before .before .before .before .before .before .before .is-within .ensures) (not-false (c .before .before .before .before .before .before .before .before .before .before .before .before .is-within .result) (c .before .before .before .before .before .before .before .before .before .before .before .if1 .left))) (ap (λ q. within 1 units (q .longest)) (row .ensures .0) ∙ sym (c .before .before .before .before .before .before .before .before .is-within2 .ensures) ∙ not-false (c .before .before .before .before .before .before .before .before .is-within2 .result) (c .before .before .before .before .before .before .before .if2 .left)) (ap₂ (λ q a. conforms q a (contents ws .counter)) (row .ensures .0) (row .ensures .1) ∙ (ap (conforms (row .result .asked) (row .result .allowance)) (sym (c .before .before .before .before .before .counter .ensures)) ∙ sym (c .before .before .before .before .fits2 .ensures) ∙ not-false (c .before .before .before .before .fits2 .result) (c .before .before .before .if3 .left)))
     (omega (arith, c .before .waiting-count .ensures, c .if4 .taken))) refl
 
 accept-requires : tie.Need-accept-requires
@@ -115,7 +115,7 @@ accept-requires c κs =
       row-asked = row .ensures .0;
       row-allowance = row .ensures .1;
       permitted = sym (c .before .before .before .before .before .before .before .before .before .is-within2 .ensures) ∙ not-false (c .before .before .before .before .before .before .before .before .before .is-within2 .result) (c .before .before .before .before .before .before .before .before .if2 .left);
-      fit = (ap (conforms (askedIn (row .result)) (allowanceIn (row .result))) (sym (c .before .before .before .before .before .before .counter .ensures)) ∙ sym (c .before .before .before .before .before .fits2 .ensures) ∙ not-false (c .before .before .before .before .before .fits2 .result) (c .before .before .before .before .if3 .left));
+      fit = (ap (conforms (row .result .asked) (row .result .allowance)) (sym (c .before .before .before .before .before .before .counter .ensures)) ∙ sym (c .before .before .before .before .before .fits2 .ensures) ∙ not-false (c .before .before .before .before .before .fits2 .result) (c .before .before .before .before .if3 .left));
       room = omega (arith, c .before .before .waiting-count .ensures, c .before .if4 .left);
     }
 
@@ -131,7 +131,7 @@ returns-5 c =
     let row = c .before .before .before .before .before .before .before .before .before .before .before .before .before .read-row in
     let a = c .before .before .accept in
     taken ws n units (s .pre) (a .last .0) (a .result) (a .ensures .0)
-    (answer-accepted (contents ws) n units (sound-contents ws (s .pre)) (stands-as (contents ws) n (c .before .before .before .before .before .before .before .before .before .before .before .before .before .before .before .before .before .standing-count .result) (c .before .before .before .before .before .before .before .before .before .before .before .before .before .before .before .before .before .standing-count .ensures) (c .before .before .before .before .before .before .before .before .before .before .before .before .before .before .before .before .is-within .result) (c .before .before .before .before .before .before .before .before .before .before .before .before .before .before .before .before .is-within .ensures) (not-false (c .before .before .before .before .before .before .before .before .before .before .before .before .before .before .before .before .is-within .result) (c .before .before .before .before .before .before .before .before .before .before .before .before .before .before .before .if1 .left))) (ap (λ q. within 1 units (q .longest)) (row .ensures .0) ∙ sym (c .before .before .before .before .before .before .before .before .before .before .before .before .is-within2 .ensures) ∙ not-false (c .before .before .before .before .before .before .before .before .before .before .before .before .is-within2 .result) (c .before .before .before .before .before .before .before .before .before .before .before .if2 .left)) (ap₂ (λ q a. conforms q a (contents ws .counter)) (row .ensures .0) (row .ensures .1) ∙ (ap (conforms (askedIn (row .result)) (allowanceIn (row .result))) (sym (c .before .before .before .before .before .before .before .before .before .counter .ensures)) ∙ sym (c .before .before .before .before .before .before .before .before .fits2 .ensures) ∙ not-false (c .before .before .before .before .before .before .before .before .fits2 .result) (c .before .before .before .before .before .before .before .if3 .left)))
+    (answer-accepted (contents ws) n units (sound-contents ws (s .pre)) (stands-as (contents ws) n (c .before .before .before .before .before .before .before .before .before .before .before .before .before .before .before .before .before .standing-count .result) (c .before .before .before .before .before .before .before .before .before .before .before .before .before .before .before .before .before .standing-count .ensures) (c .before .before .before .before .before .before .before .before .before .before .before .before .before .before .before .before .is-within .result) (c .before .before .before .before .before .before .before .before .before .before .before .before .before .before .before .before .is-within .ensures) (not-false (c .before .before .before .before .before .before .before .before .before .before .before .before .before .before .before .before .is-within .result) (c .before .before .before .before .before .before .before .before .before .before .before .before .before .before .before .if1 .left))) (ap (λ q. within 1 units (q .longest)) (row .ensures .0) ∙ sym (c .before .before .before .before .before .before .before .before .before .before .before .before .is-within2 .ensures) ∙ not-false (c .before .before .before .before .before .before .before .before .before .before .before .before .is-within2 .result) (c .before .before .before .before .before .before .before .before .before .before .before .if2 .left)) (ap₂ (λ q a. conforms q a (contents ws .counter)) (row .ensures .0) (row .ensures .1) ∙ (ap (conforms (row .result .asked) (row .result .allowance)) (sym (c .before .before .before .before .before .before .before .before .before .counter .ensures)) ∙ sym (c .before .before .before .before .before .before .before .before .fits2 .ensures) ∙ not-false (c .before .before .before .before .before .before .before .before .fits2 .result) (c .before .before .before .before .before .before .before .if3 .left)))
     (omega (arith, c .before .before .before .before .before .waiting-count .ensures, c .before .before .before .before .if4 .left)))
     (a .ensures .1)
 

@@ -1,8 +1,8 @@
 -- `multiplexer::offering::tag_of` meets its contract.
 use mathlib.Core.Path.{_≡_, ap, _∙_}
-use Prim.Native.Nat.{_+_}
+use Prim.Native.Nat.{_+_, _-_}
 use native.Mathlib.Omega.{arith}
-use Rattle.words.specs.Places.{word}
+use Rattle.words.specs.Places.{word, factorsAt}
 use Rattle.words.proofs.Counts.{sound-fitting}
 use Rattle.multiplexer.proofs.Offers.{tag-is, classes-most}
 use borrow.Author.Needs.{needs}
@@ -29,7 +29,7 @@ returns c =
     let s = c .before .before .before .before in
     let ws = s .args .ws .now in
     let t = tag-is ws (s .args .class) (s .pre .0) (s .pre .1 .0) (s .pre .1 .1) in
-    let e : c .wide2 .result ≡ word ws (2 + s .args .class) = c .wide2 .ensures .0 ∙ ap (λ k. word ws (2 + k)) (c .before .before .wide .ensures .0) in
+    let e : c .wide2 .result ≡ word ws (factorsAt - 1 + s .args .class) = c .wide2 .ensures .0 ∙ ap (λ k. word ws (factorsAt - 1 + k)) (c .before .before .wide .ensures .0) in
     (e ∙ t .0, omega (arith, t .1))
 
 pub tag-of-spec : {M : Type 1} → statement M

@@ -1,7 +1,7 @@
 -- `multiplexer::stepping::send_unit` meets its contract.
-use mathlib.Core.Path.{_≡_, subst}
+use mathlib.Core.Path.{_≡_, refl, subst}
 use native.Mathlib.Omega.{arith}
-use Rattle.words.specs.Contents.{contents}
+use Rattle.words.specs.Contents.{contents, noPacket}
 use Rattle.words.specs.Changes.{Become}
 use Rattle.multiplexer.proofs.Sounds.{become-same}
 use Rattle.multiplexer.proofs.Steps.{none-sent, last-sent, one-sent}
@@ -20,11 +20,11 @@ returns c =
     let s = c .before .before .before .before in
     let ws = s .args .ws .now in
     let l = c .before .read-link in
-    let e = none-sent (contents ws) (s .args .departure) (record { serial = l .result .serial; connection = l .result .connection; units = l .result .units; arrival = l .result .arrival }) (l .result .left) (c .if1 .taken) (l .ensures) in
+    let e = none-sent (contents ws) (s .args .departure) (l .result .packet) (l .result .left) (c .if1 .taken) (l .ensures) in
     (e .0, subst (Become ws ws) (e .1) (become-same ws (s .pre)))
 
 write-link-requires : tie.Need-write-link-requires
-write-link-requires c κs = search needs
+write-link-requires c κs = (c .before .before .before .before .before .before .pre, λ z. refl)
 
 same-length-2 : tie.Need-same-length-2
 same-length-2 c = search needs
@@ -36,17 +36,17 @@ returns-2 c =
     let l = c .before .before .before .before .before .before .read-link in
     let w = c .before .before .write-link in
     let one : l .result .left ≡ 1 = omega arith in
-    let e = last-sent (contents ws) (s .args .departure) (record { serial = l .result .serial; connection = l .result .connection; units = l .result .units; arrival = l .result .arrival }) (l .result .left) one (l .ensures) (record { serial = 0; connection = 0; units = 0; arrival = 0 }) in
+    let e = last-sent (contents ws) (s .args .departure) (l .result .packet) (l .result .left) one (l .ensures) noPacket in
     (e .0, subst (Become ws (w .last .0)) (e .1) (w .ensures))
 
 sub-write-link : tie.Need-sub-write-link
 sub-write-link c = search needs
 
 write-link-requires-2 : tie.Need-write-link-requires-2
-write-link-requires-2 c κs = search needs
+write-link-requires-2 c κs = (c .before .before .before .before .before .before .pre, λ z. absurd (omega arith))
 
-sub-t14 : tie.Need-sub-t14
-sub-t14 c = search needs
+sub-t15 : tie.Need-sub-t15
+sub-t15 c = search needs
 
 same-length-3 : tie.Need-same-length-3
 same-length-3 c = search needs
@@ -57,7 +57,7 @@ returns-3 c =
     let ws = s .args .ws .now in
     let l = c .before .before .before .before .before .before .read-link in
     let w = c .before .before .write-link2 in
-    let e = one-sent (contents ws) (s .args .departure) (record { serial = l .result .serial; connection = l .result .connection; units = l .result .units; arrival = l .result .arrival }) (l .result .left) (omega arith) (l .ensures) in
+    let e = one-sent (contents ws) (s .args .departure) (l .result .packet) (l .result .left) (omega arith) (l .ensures) in
     (e .0, subst (Become ws (w .last .0)) (e .1) (w .ensures))
 
 pub send-unit-spec : {M : Type 1} → statement M
@@ -72,6 +72,6 @@ send-unit-spec =
     returns-2
     sub-write-link
     write-link-requires-2
-    sub-t14
+    sub-t15
     same-length-3
     returns-3)

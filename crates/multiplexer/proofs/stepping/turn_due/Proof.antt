@@ -3,7 +3,7 @@ use mathlib.Core.Path.{ap, _∙_}
 use Prim.Native.Nat.{_+_, _%_}
 use native.Mathlib.Omega.{arith}
 use lib.Dec.{eqb}
-use Rattle.words.specs.Places.{word}
+use Rattle.words.specs.Places.{word, intervalAt}
 use Rattle.words.proofs.Counts.{sound-fitting}
 use Rattle.multiplexer.proofs.Steps.{turn-is}
 use borrow.Author.Needs.{needs}
@@ -23,7 +23,7 @@ rem-result : tie.Need-rem-result
 rem-result c = let s = c .before .before .before in sound-fitting (s .args .ws .now) (s .pre) .interval
 
 returns : tie.Need-returns
-returns c = let s = c .before .before .before in ap (λ n. eqb ((n + 1) % word (s .args .ws .now) 0) 0) (c .before .counter-of .ensures .0) ∙ turn-is (s .args .ws .now)
+returns c = let s = c .before .before .before in ap (λ n. eqb ((n + 1) % word (s .args .ws .now) intervalAt) 0) (c .before .counter-of .ensures .0) ∙ turn-is (s .args .ws .now)
 
 pub turn-due-spec : {M : Type 1} → statement M
 turn-due-spec =

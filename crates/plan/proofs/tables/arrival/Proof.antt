@@ -2,14 +2,13 @@
 use native.Mathlib.Omega.{arith}
 use Prim.Native.Nat.{_+_, _*_}
 use Rattle.meaning.specs.Plan.{arrivalAt}
-use Rattle.plan.specs.Parts.{arrivalOf}
 use Rattle.plan.specs.Words.{word-past}
 use borrow.Author.Needs.{needs}
 use Rattle.plan.proofs.tables.arrival.Statement.{statement}
 use Rattle.plan.proofs.tables.arrival.Tie as tie
 
 returns : tie.Need-returns
-unfolding arrivalOf arrivalAt
+unfolding arrivalAt
 returns c =
     let a = c .before .before .args in
     rw (word-past (a .arrivals .now) (3 * a .i) (omega arith), word-past (a .arrivals .now) (3 * a .i + 1) (omega arith), word-past (a .arrivals .now) (3 * a .i + 2) (omega arith))
@@ -39,7 +38,7 @@ number-requires-3 : tie.Need-number-requires-3
 number-requires-3 c κs = search needs
 
 returns-2 : tie.Need-returns-2
-unfolding arrivalOf arrivalAt
+unfolding arrivalAt
 returns-2 c = rw (c .before .before .number .ensures, c .before .number2 .ensures, c .number3 .ensures)
 
 pub arrival-spec : {M : Type 1} → statement M

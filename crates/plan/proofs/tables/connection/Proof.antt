@@ -2,14 +2,13 @@
 use native.Mathlib.Omega.{arith}
 use Prim.Native.Nat.{_+_, _*_}
 use Rattle.meaning.specs.Plan.{connectionAt}
-use Rattle.plan.specs.Parts.{connectionOf}
 use Rattle.plan.specs.Words.{word-past}
 use borrow.Author.Needs.{needs}
 use Rattle.plan.proofs.tables.connection.Statement.{statement}
 use Rattle.plan.proofs.tables.connection.Tie as tie
 
 returns : tie.Need-returns
-unfolding connectionOf connectionAt
+unfolding connectionAt
 returns c =
     let a = c .before .before .args in
     rw (word-past (a .connections .now) (4 * a .i) (omega arith), word-past (a .connections .now) (4 * a .i + 1) (omega arith), word-past (a .connections .now) (4 * a .i + 2) (omega arith), word-past (a .connections .now) (4 * a .i + 3) (omega arith))
@@ -48,7 +47,7 @@ number-requires-4 : tie.Need-number-requires-4
 number-requires-4 c κs = search needs
 
 returns-2 : tie.Need-returns-2
-unfolding connectionOf connectionAt
+unfolding connectionAt
 returns-2 c = rw (c .before .before .before .number .ensures, c .before .before .number2 .ensures, c .before .number3 .ensures, c .number4 .ensures)
 
 pub connection-spec : {M : Type 1} → statement M

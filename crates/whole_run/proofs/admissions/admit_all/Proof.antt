@@ -5,7 +5,6 @@ use native.Mathlib.Omega.{arith}
 use lib.ListN.{length, getD, length-set}
 use Rattle.meaning.specs.declared.Admitted.{Admitted}
 use Rattle.meaning.specs.Answers.{admitted}
-use Rattle.plan.specs.Parts.{connectionOf}
 use Rattle.words.specs.Contents.{contents}
 use Rattle.whole_run.proofs.Admitting.{Admitting, admit-start, admit-room, admit-on, admit-end}
 use borrow.Author.Needs.{needs}
@@ -43,7 +42,6 @@ failing-t-requires : tie.Need-failing-t-requires Inv-loop μ-loop
 failing-t-requires c κs = search needs
 
 put-admit-requires : tie.Need-put-admit-requires Inv-loop μ-loop
-unfolding connectionOf
 put-admit-requires c κs =
     let s = c .before .before .before .before .before .before .before .before .before .before .before .before .before .before in
     let answer = c .before .before .before .before .before .admit-sound .ensures .0 in
@@ -71,7 +69,6 @@ loop-less c =
     omega (arith, c .before .before .before .before .before .before .before .before .before .before .before .before .loop-test .taken)
 
 loop-again : tie.Need-loop-again Inv-loop μ-loop
-unfolding connectionOf
 loop-again c =
     let s = c .before .before .before .before .before .before .before .before .before .before .before .before .before .before .before .before .before .before in
     let i = c .before .before .before .before .before .before .before .before .before .before .before .before .before .loop .inv in

@@ -6,7 +6,6 @@ use lib.ListN.{length, getD}
 use Rattle.meaning.specs.declared.Offered.{Offered}
 use Rattle.meaning.specs.Answers.{offered}
 use Rattle.meaning.specs.Calls.{offerAnswer, afterOffer}
-use Rattle.plan.specs.Parts.{arrivalOf}
 use Rattle.words.specs.Contents.{contents}
 use Rattle.multiplexer.specs.Promised.{Leaves}
 use Rattle.whole_run.proofs.Offering.{Offering, offer-start, offer-room, offer-on, offer-end}
@@ -52,7 +51,6 @@ serial-given-requires : tie.Need-serial-given-requires Inv-loop μ-loop
 serial-given-requires c κs = search needs
 
 put-offer-requires : tie.Need-put-offer-requires Inv-loop μ-loop
-unfolding arrivalOf
 put-offer-requires c κs =
     let s = c .before .before .before .before .before .before .before .before .before .before .before .before .before .before .before in
     let box = contents (c .before .before .before .before .before .before .before .before .before .before .loop .ws) in
@@ -71,7 +69,6 @@ loop-less c =
     omega (arith, c .before .before .before .before .before .before .before .before .before .before .before .before .loop-test .taken)
 
 loop-again : tie.Need-loop-again Inv-loop μ-loop
-unfolding arrivalOf
 loop-again c =
     let s = c .before .before .before .before .before .before .before .before .before .before .before .before .before .before .before .before .before .before in
     let i = c .before .before .before .before .before .before .before .before .before .before .before .before .before .loop .inv in

@@ -44,7 +44,7 @@ same-length : tie.Need-same-length
 same-length c = search needs
 
 returns : tie.Need-returns
-returns c = let a = c .args in packet-stored (a .ws .now) (a .at) (a .serial) (a .connection) (a .units) (a .arrival) (c .pre)
+returns c = let a = c .args in packet-stored (a .ws .now) (a .at) (a .p .serial) (a .p .connection) (a .p .units) (a .p .arrival) (c .pre)
 
 pub write-packet-spec : {M : Type 1} → statement M
 write-packet-spec =

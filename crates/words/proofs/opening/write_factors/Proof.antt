@@ -9,15 +9,16 @@ use mathlib.Core.Path.{_≡_, refl, ap, _∙_}
 use Prim.Native.Nat.{_+_, _-_, _≤_}
 use Rattle.words.proofs.opening.write_factors.Statement.{statement}
 use Rattle.words.proofs.opening.write_factors.Tie as tie
+use Rattle.words.specs.Places.{factorsAt}
 
 abbrev Inv-loop : tie.InvT-loop
-Inv-loop ws₀ factors i₀ ws i = (i ≤ length factors) × (length ws ≡ length ws₀) × (ws ≡ paste ws₀ 3 factors i)
+Inv-loop ws₀ factors i₀ ws i = (i ≤ length factors) × (length ws ≡ length ws₀) × (ws ≡ paste ws₀ factorsAt factors i)
 
 abbrev μ-loop : tie.MeasureT-loop
 μ-loop ws₀ factors i₀ ws i = length factors - i
 
 loop-holds : tie.Need-loop-holds Inv-loop μ-loop
-loop-holds c = (omega arith, refl, paste-zero (c .args .ws .now) 3 (c .args .factors .now))
+loop-holds c = (omega arith, refl, paste-zero (c .args .ws .now) factorsAt (c .args .factors .now))
 
 mul-ws : tie.Need-mul-ws Inv-loop μ-loop
 mul-ws c = omega arith
@@ -46,8 +47,8 @@ loop-again c =
     let a = c .before .before .before .args in
     let x = getD (a .factors .now) (s .i) 0 in (
       omega arith,
-      length-set (s .ws) (3 + s .i) x ∙ s .inv .1,
-      rw (add-one (s .i)) (ap (λ l. set l (3 + s .i) x) (s .inv .2) ∙ paste-suc (a .ws .now) 3 (a .factors .now) (s .i) 0 (omega arith) (c .before .loop-test .taken)),
+      length-set (s .ws) (factorsAt + s .i) x ∙ s .inv .1,
+      rw (add-one (s .i)) (ap (λ l. set l (factorsAt + s .i) x) (s .inv .2) ∙ paste-suc (a .ws .now) factorsAt (a .factors .now) (s .i) 0 (omega arith) (c .before .loop-test .taken)),
     )
 
 same-length : tie.Need-same-length Inv-loop μ-loop
@@ -58,8 +59,8 @@ returns c =
     let a = c .before .before .args in
     let fs = a .factors .now in
     let e : c .before .loop .i ≡ length fs = omega arith in
-    c .before .loop .inv .2 ∙ ap (λ i. paste (a .ws .now) 3 fs i) e ∙
-    ap (λ l. take 3 (a .ws .now) ++ l ++ drop (3 + length fs) (a .ws .now)) (take-length fs)
+    c .before .loop .inv .2 ∙ ap (λ i. paste (a .ws .now) factorsAt fs i) e ∙
+    ap (λ l. take factorsAt (a .ws .now) ++ l ++ drop (factorsAt + length fs) (a .ws .now)) (take-length fs)
 
 pub write-factors-spec : {M : Type 1} → statement M
 write-factors-spec =

@@ -9,6 +9,7 @@ use Prim.Native.Nat.{_-_}
 use borrow.Author.Needs.{needs}
 use Rattle.words.proofs.packets.link_tested.Statement.{statement}
 use Rattle.words.proofs.packets.link_tested.Tie as tie
+use Rattle.words.specs.Places.{linkAt}
 
 shared-slice-read-left : tie.Need-shared-slice-read-left
 shared-slice-read-left c = search needs
@@ -27,7 +28,7 @@ returns-2 : tie.Need-returns-2
 unfolding linkTested
 returns-2 c =
     let ws = c .before .before .before .before .before .args .ws .now in
-    let e : packetKept (contents ws) (packetAt ws 207) ≡ false = sym (c .before .packet-kept .ensures) ∙ not-true _ (c .if2 .taken) in
+    let e : packetKept (contents ws) (packetAt ws linkAt) ≡ false = sym (c .before .packet-kept .ensures) ∙ not-true _ (c .if2 .taken) in
     simp (ne-eqb _ _ (c .before .before .if1 .left), e)
 
 shared-slice-read-result : tie.Need-shared-slice-read-result
@@ -37,7 +38,7 @@ returns-3 : tie.Need-returns-3
 unfolding linkTested
 returns-3 c =
     let ws = c .before .before .before .before .before .before .args .ws .now in
-    let e : packetKept (contents ws) (packetAt ws 207) ≡ true = sym (c .before .before .packet-kept .ensures) ∙ not-false _ (c .before .if2 .left) in
+    let e : packetKept (contents ws) (packetAt ws linkAt) ≡ true = sym (c .before .before .packet-kept .ensures) ∙ not-false _ (c .before .if2 .left) in
     simp (ne-eqb _ _ (c .before .before .before .if1 .left), e)
 
 pub link-tested-spec : {M : Type 1} → statement M

@@ -2,7 +2,7 @@
 use Rattle.meaning.specs.Box.{connection}
 use Rattle.words.proofs.TableReads.{packet-parts, connection-longest}
 use Rattle.words.specs.Contents.{contents}
-use Rattle.words.specs.Places.{word}
+use Rattle.words.specs.Places.{word, rowCountAt, rowsAt, acceptedAt}
 use Rattle.laws.specs.Tests.{within, within-facts}
 use mathlib.Core.Bool.{true, false, and-false}
 use borrow.Author.Tests.{not-true, not-false}
@@ -29,7 +29,7 @@ returns : tie.Need-returns
 returns c =
     let ws = c .before .before .before .before .before .args .ws .now in
     let at = c .before .before .before .before .before .args .at in
-    let e : within 1 (word ws at) (word ws 205) ≡ false = sym (c .before .is-within .ensures) ∙ not-true _ (c .if1 .taken) in
+    let e : within 1 (word ws at) (word ws acceptedAt) ≡ false = sym (c .before .is-within .ensures) ∙ not-true _ (c .if1 .taken) in
     sym (packet-parts ws at ∙ simp (e, and-false))
 
 add-connection : tie.Need-add-connection
@@ -51,7 +51,7 @@ returns-2 : tie.Need-returns-2
 returns-2 c =
     let ws = c .before .before .before .before .before .before .before .before .before .args .ws .now in
     let at = c .before .before .before .before .before .before .before .before .before .args .at in
-    let e : within 1 (word ws (at + 1)) (word ws 11) ≡ false = sym (c .before .is-within2 .ensures) ∙ not-true _ (c .if2 .taken) in
+    let e : within 1 (word ws (at + 1)) (word ws rowCountAt) ≡ false = sym (c .before .is-within2 .ensures) ∙ not-true _ (c .if2 .taken) in
     sym (packet-parts ws at ∙ simp (e, and-false))
 
 add-is-within : tie.Need-add-is-within
@@ -93,9 +93,9 @@ returns-3 c =
     let ws = c .before .before .before .before .before .before .before .before .before .before .before .before .before .before .args .ws .now in
     let at = c .before .before .before .before .before .before .before .before .before .before .before .before .before .before .args .at in
     let n = word ws (at + 1) in
-    let f = within-facts 1 n (word ws 11) (sym (c .before .before .before .before .before .before .is-within2 .ensures) ∙ not-false _ (c .before .before .before .before .before .if2 .left)) in
+    let f = within-facts 1 n (word ws rowCountAt) (sym (c .before .before .before .before .before .before .is-within2 .ensures) ∙ not-false _ (c .before .before .before .before .before .if2 .left)) in
     let e : within 1 (word ws (at + 2)) (connection (contents ws) n .longest) ≡ false =
-    ap (within 1 (word ws (at + 2))) (connection-longest ws n (f .0) (f .1) ∙ ap (λ m. word ws (1 + 6 * (1 + m))) (sym (c .before .before .before .wide .ensures .0))) ∙
+    ap (within 1 (word ws (at + 2))) (connection-longest ws n (f .0) (f .1) ∙ ap (λ m. word ws (1 + (rowsAt - 6 + 6 * m))) (sym (c .before .before .before .wide .ensures .0))) ∙
     sym (c .before .is-within3 .ensures) ∙ not-true _ (c .if3 .taken) in
     sym (packet-parts ws at ∙ simp (e, and-false))
 
@@ -116,11 +116,11 @@ returns-4 c =
     let ws = c .before .before .before .before .before .before .before .before .before .before .before .before .before .before .before .before .args .ws .now in
     let at = c .before .before .before .before .before .before .before .before .before .before .before .before .before .before .before .before .args .at in
     let n = word ws (at + 1) in
-    let a : within 1 (word ws at) (word ws 205) ≡ true = sym (c .before .before .before .before .before .before .before .before .before .before .before .before .is-within .ensures) ∙ not-false _ (c .before .before .before .before .before .before .before .before .before .before .before .if1 .left) in
-    let b : within 1 n (word ws 11) ≡ true = sym (c .before .before .before .before .before .before .before .before .is-within2 .ensures) ∙ not-false _ (c .before .before .before .before .before .before .before .if2 .left) in
-    let f = within-facts 1 n (word ws 11) b in
+    let a : within 1 (word ws at) (word ws acceptedAt) ≡ true = sym (c .before .before .before .before .before .before .before .before .before .before .before .before .is-within .ensures) ∙ not-false _ (c .before .before .before .before .before .before .before .before .before .before .before .if1 .left) in
+    let b : within 1 n (word ws rowCountAt) ≡ true = sym (c .before .before .before .before .before .before .before .before .is-within2 .ensures) ∙ not-false _ (c .before .before .before .before .before .before .before .if2 .left) in
+    let f = within-facts 1 n (word ws rowCountAt) b in
     let e : within 1 (word ws (at + 2)) (connection (contents ws) n .longest) ≡ true =
-    ap (within 1 (word ws (at + 2))) (connection-longest ws n (f .0) (f .1) ∙ ap (λ m. word ws (1 + 6 * (1 + m))) (sym (c .before .before .before .before .before .wide .ensures .0))) ∙
+    ap (within 1 (word ws (at + 2))) (connection-longest ws n (f .0) (f .1) ∙ ap (λ m. word ws (1 + (rowsAt - 6 + 6 * m))) (sym (c .before .before .before .before .before .wide .ensures .0))) ∙
     sym (c .before .before .before .is-within3 .ensures) ∙ not-false _ (c .before .before .if3 .left) in
     sym (packet-parts ws at ∙ simp (a, b, e))
 
@@ -143,8 +143,8 @@ packet-kept-spec =
     mul-is-within-2
     shared-slice-read-is-within-4
     wide-requires
-    add-is-within-2
     mul-is-within-3
+    add-is-within-2
     add-is-within-3
     mul-is-within-4
     shared-slice-read-is-within-5

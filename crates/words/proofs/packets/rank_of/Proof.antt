@@ -1,6 +1,6 @@
 -- `words::packets::rank_of` meets its contract.
 use Rattle.words.proofs.TableReads.{kept-connection, rank-at}
-use Rattle.words.specs.Places.{word}
+use Rattle.words.specs.Places.{word, factorsAt, rowsAt}
 use native.Mathlib.Omega.{arith}
 use mathlib.Core.Path.{_≡_, sym, ap, _∙_}
 use Prim.Native.Nat.{_+_, _*_, _-_}
@@ -70,8 +70,8 @@ shared-slice-read-wide-5 c =
     let n = word ws (s .args .at + 1) in
     let f = kept-connection ws (s .args .at) (s .pre .1) in
     let k = s .pre .0 .0 in
-    let e : 6 * (1 + c .before .before .before .before .before .before .wide .result) ≡ 12 + 6 * (n - 1) = omega (arith, c .before .before .before .before .before .before .wide .ensures .0) in
-    let q : c .before .before .before .before .wide2 .result ≡ word ws (12 + 6 * (n - 1)) = c .before .before .before .before .wide2 .ensures .0 ∙ ap (λ i. word ws i) e in
+    let e : (rowsAt - 6 + 6 * c .before .before .before .before .before .before .wide .result) ≡ rowsAt + 6 * (n - 1) = omega (arith, c .before .before .before .before .before .before .wide .ensures .0) in
+    let q : c .before .before .before .before .wide2 .result ≡ word ws (rowsAt + 6 * (n - 1)) = c .before .before .before .before .wide2 .ensures .0 ∙ ap (λ i. word ws i) e in
     omega (arith, k .enough, k .classes, k .class-most (n - 1) (omega arith))
 
 wide-requires-4 : tie.Need-wide-requires-4
@@ -87,9 +87,9 @@ returns c =
     let at = s .args .at in
     let f = kept-connection ws at (s .pre .1) in
     let a = c .before .before .wide3 .ensures .0 in
-    let d = c .before .before .before .before .before .wide2 .ensures .0 ∙ ap (λ m. word ws (6 * (1 + m))) (c .before .before .before .before .before .before .before .wide .ensures .0) in
-    let b = c .wide4 .ensures .0 ∙ ap (λ m. word ws (2 + m)) d in
-    sym (rank-at ws at (s .pre .0 .0) (f .0) (f .1) ∙ ap (λ m. m + word ws (2 + word ws (6 * (1 + word ws (at + 1))))) (sym a) ∙
+    let d = c .before .before .before .before .before .wide2 .ensures .0 ∙ ap (λ m. word ws (rowsAt - 6 + 6 * m)) (c .before .before .before .before .before .before .before .wide .ensures .0) in
+    let b = c .wide4 .ensures .0 ∙ ap (λ m. word ws (factorsAt - 1 + m)) d in
+    sym (rank-at ws at (s .pre .0 .0) (f .0) (f .1) ∙ ap (λ m. m + word ws (factorsAt - 1 + word ws ((rowsAt - 6 + 6 * word ws (at + 1))))) (sym a) ∙
     ap (λ m. c .before .before .wide3 .result + m) (sym b))
 
 pub rank-of-spec : {M : Type 1} → statement M
@@ -100,8 +100,8 @@ rank-of-spec =
     mul-wide
     shared-slice-read-wide
     wide-requires
-    add-wide-2
     mul-wide-2
+    add-wide-2
     mul-wide-3
     shared-slice-read-wide-2
     wide-requires-2

@@ -1,5 +1,5 @@
 -- `words::parts::append_row` meets its contract.
-use Rattle.words.specs.Places.{word}
+use Rattle.words.specs.Places.{word, rowCountAt, rowsAt}
 use native.Mathlib.Numerals.{add-one}
 use Rattle.words.proofs.RowChanges.{append-become}
 use native.Mathlib.Omega.{arith}
@@ -36,7 +36,7 @@ returns : tie.Need-returns
 returns c =
     let s = c .before .before .before .before .before .before .before in
     let ws = s .args .ws .now in
-    append-become ws (c .before .before .write-row .last .0) _ (6 * (2 + c .before .before .before .wide .result)) (word ws 11 + 1) (s .pre .0) (s .pre .1) (omega (arith, c .before .before .before .wide .ensures .0)) (add-one (word ws 11))
+    append-become ws (c .before .before .write-row .last .0) _ (rowsAt + 6 * c .before .before .before .wide .result) (word ws rowCountAt + 1) (s .pre .0) (s .pre .1) (omega (arith, c .before .before .before .wide .ensures .0)) (add-one (word ws rowCountAt))
     (c .before .before .write-row .ensures)
 
 pub append-row-spec : {M : Type 1} → statement M
@@ -45,8 +45,8 @@ append-row-spec =
     (tie.spec
     slice-read-count
     wide-requires
-    add-write-row
     mul-write-row
+    add-write-row
     write-row-requires
     add-ws
     slice-write-ws

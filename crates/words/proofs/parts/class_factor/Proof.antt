@@ -1,6 +1,6 @@
 -- `words::parts::class_factor` meets its contract.
 use Rattle.words.proofs.TableReads.{factor-at}
-use Rattle.words.specs.Places.{word}
+use Rattle.words.specs.Places.{word, factorsAt}
 use Rattle.words.specs.Contents.{contents}
 use mathlib.Core.Path.{sym, ap, _∙_}
 use Prim.Native.Nat.{_+_, _-_}
@@ -25,7 +25,7 @@ unfolding contents
 returns c =
     let s = c .before .before .before in
     let ws = s .args .ws .now in
-    ap (λ m. word ws (2 + m)) (c .before .wide .ensures .0) ∙ sym (factor-at ws (s .args .p) (s .pre .1) (s .pre .2))
+    ap (λ m. word ws (factorsAt - 1 + m)) (c .before .wide .ensures .0) ∙ sym (factor-at ws (s .args .p) (s .pre .1) (s .pre .2))
 
 pub class-factor-spec : {M : Type 1} → statement M
 class-factor-spec =

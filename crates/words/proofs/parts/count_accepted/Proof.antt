@@ -1,7 +1,7 @@
 -- `words::parts::count_accepted` meets its contract.
 use native.Mathlib.Numerals.{add-one}
 use Rattle.words.proofs.SmallChanges.{accepted-become}
-use Rattle.words.specs.Places.{word}
+use Rattle.words.specs.Places.{word, acceptedAt}
 use Rattle.words.specs.Contents.{contents}
 use Prim.Native.Nat.{_+_, _-_}
 use borrow.Author.Needs.{needs}
@@ -22,7 +22,7 @@ same-length c = search needs
 
 returns : tie.Need-returns
 unfolding contents
-returns c = let ws = c .before .args .ws .now in rw (← (add-one (word ws 205))) (accepted-become ws (word ws 205 + 1) (c .before .pre .0))
+returns c = let ws = c .before .args .ws .now in rw (← (add-one (word ws acceptedAt))) (accepted-become ws (word ws acceptedAt + 1) (c .before .pre .0))
 
 pub count-accepted-spec : {M : Type 1} → statement M
 count-accepted-spec = tie.close (tie.spec slice-read-ws add-ws slice-write-ws same-length returns)

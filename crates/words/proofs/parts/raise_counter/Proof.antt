@@ -1,7 +1,7 @@
 -- `words::parts::raise_counter` meets its contract.
 use native.Mathlib.Numerals.{add-one}
 use Rattle.words.proofs.SmallChanges.{raise-become}
-use Rattle.words.specs.Places.{word}
+use Rattle.words.specs.Places.{word, counterAt}
 use Prim.Native.Nat.{_+_, _-_}
 use borrow.Author.Needs.{needs}
 use Rattle.words.proofs.parts.raise_counter.Statement.{statement}
@@ -20,7 +20,7 @@ same-length : tie.Need-same-length
 same-length c = search needs
 
 returns : tie.Need-returns
-returns c = let ws = c .before .args .ws .now in raise-become ws (word ws 204 + 1) (c .before .pre .0) (add-one (word ws 204)) (c .before .pre .2)
+returns c = let ws = c .before .args .ws .now in raise-become ws (word ws counterAt + 1) (c .before .pre .0) (add-one (word ws counterAt)) (c .before .pre .2)
 
 pub raise-counter-spec : {M : Type 1} → statement M
 raise-counter-spec = tie.close (tie.spec slice-read-ws add-ws slice-write-ws same-length returns)

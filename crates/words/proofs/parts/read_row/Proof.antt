@@ -1,6 +1,7 @@
 -- `words::parts::read_row` meets its contract.
 use Rattle.words.proofs.TableReads.{connection-at, allowance-at}
 use Rattle.words.specs.Contents.{standingAt}
+use Rattle.words.specs.Places.{rowsAt}
 use mathlib.Core.Path.{sym, ap, _∙_}
 use Prim.Native.Nat.{_+_, _*_, _-_}
 use borrow.Author.Needs.{needs}
@@ -10,11 +11,11 @@ use Rattle.words.proofs.parts.read_row.Tie as tie
 wide-requires : tie.Need-wide-requires
 wide-requires c κs = search needs
 
-add-at : tie.Need-add-at
-add-at c = search needs
-
 mul-at : tie.Need-mul-at
 mul-at c = search needs
+
+add-at : tie.Need-add-at
+add-at c = search needs
 
 mul-t4 : tie.Need-mul-t4
 mul-t4 c = search needs
@@ -49,23 +50,23 @@ mul-t16 c = search needs
 shared-slice-read-t18 : tie.Need-shared-slice-read-t18
 shared-slice-read-t18 c = search needs
 
-add-t19 : tie.Need-add-t19
-add-t19 c = search needs
+add-t20 : tie.Need-add-t20
+add-t20 c = search needs
 
-mul-t20 : tie.Need-mul-t20
-mul-t20 c = search needs
+mul-t21 : tie.Need-mul-t21
+mul-t21 c = search needs
 
-shared-slice-read-t22 : tie.Need-shared-slice-read-t22
-shared-slice-read-t22 c = search needs
+shared-slice-read-t23 : tie.Need-shared-slice-read-t23
+shared-slice-read-t23 c = search needs
 
-add-t23 : tie.Need-add-t23
-add-t23 c = search needs
+add-t24 : tie.Need-add-t24
+add-t24 c = search needs
 
-mul-t24 : tie.Need-mul-t24
-mul-t24 c = search needs
+mul-t25 : tie.Need-mul-t25
+mul-t25 c = search needs
 
-shared-slice-read-t26 : tie.Need-shared-slice-read-t26
-shared-slice-read-t26 c = search needs
+shared-slice-read-t27 : tie.Need-shared-slice-read-t27
+shared-slice-read-t27 c = search needs
 
 returns : tie.Need-returns
 unfolding standingAt
@@ -74,8 +75,8 @@ returns c =
     let ws = s .args .ws .now in
     let n = s .args .n in
     let w = c .before .before .before .before .before .before .wide .ensures .0 in (
-      connection-at ws n (s .pre .1) (s .pre .2) ∙ ap (λ m. standingAt ws (6 * (1 + m)) .asked) (sym w),
-      allowance-at ws n (s .pre .1) (s .pre .2) ∙ ap (λ m. standingAt ws (6 * (1 + m)) .allowance) (sym w),
+      connection-at ws n (s .pre .1) (s .pre .2) ∙ ap (λ m. standingAt ws (rowsAt - 6 + 6 * m) .asked) (sym w),
+      allowance-at ws n (s .pre .1) (s .pre .2) ∙ ap (λ m. standingAt ws (rowsAt - 6 + 6 * m) .allowance) (sym w),
     )
 
 pub read-row-spec : {M : Type 1} → statement M
@@ -83,8 +84,8 @@ read-row-spec =
     tie.close
     (tie.spec
     wide-requires
-    add-at
     mul-at
+    add-at
     mul-t4
     shared-slice-read-t7
     add-t5
@@ -96,10 +97,10 @@ read-row-spec =
     add-t15
     mul-t16
     shared-slice-read-t18
-    add-t19
-    mul-t20
-    shared-slice-read-t22
-    add-t23
-    mul-t24
-    shared-slice-read-t26
+    add-t20
+    mul-t21
+    shared-slice-read-t23
+    add-t24
+    mul-t25
+    shared-slice-read-t27
     returns)

@@ -47,8 +47,8 @@ write-allowance-spec =
     tie.close
     (tie.spec
     wide-requires
-    add-at
     mul-at
+    add-at
     add-ws
     mul-ws
     slice-write-ws

@@ -1,5 +1,4 @@
 -- `words::parts::write_link` meets its contract.
-use Rattle.meaning.specs.Box.{Packet}
 use Rattle.words.proofs.LinkWritten.{link-written}
 use lib.ListN.{length-set}
 use Rattle.words.proofs.SmallChanges.{link-become}
@@ -22,9 +21,9 @@ returns : tie.Need-returns
 returns c =
     let g = c .before .before .before .before .before .args in
     let k = c .before .before .before .before .before .pre .0 in
-    let p : Packet = record { serial = g .serial; connection = g .connection; units = g .units; arrival = g .arrival } in
-    link-become (g .ws .now) (c .before .before .write-packet .last .0) (g .left) p k (c .before .before .write-packet .ensures)
-    (link-written (g .ws .now) (c .before .before .write-packet .last .0) (g .left) (g .serial) (g .connection) (g .units) (g .arrival) k (c .before .before .write-packet .ensures) (c .before .before .before .before .before .pre .1))
+    let w = c .before .before .write-packet in
+    link-become (g .ws .now) (w .last .0) (g .left) (g .p) k (w .ensures)
+    (link-written (g .ws .now) (w .last .0) (g .left) (g .p) k (w .ensures) (c .before .before .before .before .before .pre .1))
 
 pub write-link-spec : {M : Type 1} → statement M
 write-link-spec = tie.close (tie.spec slice-write-ws write-packet-requires same-length returns)

@@ -62,7 +62,9 @@ same-length : tie.Need-same-length
 same-length c = search needs
 
 returns : tie.Need-returns
-returns c = let g = c .args in row-stored (g .ws .now) (g .at) (g .row .class) (g .row .longest) (g .row .burst) (g .row .period) (g .row .next) (g .row .credit) (c .pre)
+returns c = let g = c .args in
+    row-stored (g .ws .now) (g .at) (g .row .asked .class) (g .row .asked .longest) (g .row .asked .burst) (g .row .asked .period)
+    (g .row .allowance .next) (g .row .allowance .credit) (c .pre)
 
 pub write-row-spec : {M : Type 1} → statement M
 write-row-spec =

@@ -1,7 +1,7 @@
 -- `words::queues::behead` meets its contract.
 use Rattle.words.proofs.TableReads.{lengths-most}
 use Rattle.words.proofs.JoinTake.{behead-become}
-use Rattle.words.specs.Places.{word, placeOf, lengthsBelow}
+use Rattle.words.specs.Places.{word, placeOf, lengthsBelow, lengthsAt, packetsAt}
 use Rattle.words.specs.Contents.{contents, turnsAt}
 use native.Mathlib.Omega.{arith}
 use mathlib.Core.Path.{_≡_, ap, _∙_}
@@ -42,7 +42,7 @@ move-down-requires c κs =
     let a = c .before .lengths-below2 .ensures .0 in
     let e = c .before .before .before .lengths-below .ensures .0 in
     let l = lengths-most ws P 64 small in
-    let w = ap (λ m. word ws (211 + m)) (c .before .before .before .before .before .place-of .ensures .0) in
+    let w = ap (λ m. word ws (lengthsAt + m)) (c .before .before .before .before .before .place-of .ensures .0) in
     (omega (arith, s .pre .2), omega (arith, k .enough, k .total))
 
 add-ws : tie.Need-add-ws
@@ -64,8 +64,8 @@ sub-ws c =
     let a = c .before .before .before .before .before .lengths-below2 .ensures .0 in
     let e = c .before .before .before .before .before .before .before .lengths-below .ensures .0 in
     let l = lengths-most ws P 64 small in
-    let w = ap (λ m. word ws (211 + m)) (c .before .before .before .before .before .before .before .before .before .place-of .ensures .0) in
-    let b = c .before .before .before .move-down .ensures .below (211 + P) (omega arith) in
+    let w = ap (λ m. word ws (lengthsAt + m)) (c .before .before .before .before .before .before .before .before .before .place-of .ensures .0) in
+    let b = c .before .before .before .move-down .ensures .below (lengthsAt + P) (omega arith) in
     omega (arith, s .pre .2)
 
 add-ws-2 : tie.Need-add-ws-2
@@ -94,12 +94,12 @@ returns c =
     let g = s .args in
     let q = c .before .before .before .before .before .before .before .before .before .place-of .ensures .0 in
     let down = c .before .before .before .move-down .last .0 in
-    let w = ap (λ m. word ws (211 + m)) q in
-    let b = c .before .before .before .move-down .ensures .below (211 + P) (omega arith) in
-    let v : word down (211 + placeOf (turnsAt ws) (g .tag)) - 1 + 1 ≡ word down (211 + placeOf (turnsAt ws) (g .tag)) =
-    (let d = ap (λ m. word down (211 + m)) q in omega (arith, s .pre .2)) in
-    rw q (behead-become ws down (g .tag) k (s .pre .1) (s .pre .2) (275 + 4 * c .before .before .before .before .before .lengths-below2 .result) (275 + 4 * c .before .before .before .before .before .before .before .lengths-below .result)
-    (word down (211 + placeOf (turnsAt ws) (g .tag)) - 1) (ap (λ m. 275 + 4 * m) a ∙ ap (λ m. 275 + 4 * lengthsBelow ws m) q) (ap (λ m. 275 + 4 * m) e) (c .before .before .before .move-down .ensures) v)
+    let w = ap (λ m. word ws (lengthsAt + m)) q in
+    let b = c .before .before .before .move-down .ensures .below (lengthsAt + P) (omega arith) in
+    let v : word down (lengthsAt + placeOf (turnsAt ws) (g .tag)) - 1 + 1 ≡ word down (lengthsAt + placeOf (turnsAt ws) (g .tag)) =
+    (let d = ap (λ m. word down (lengthsAt + m)) q in omega (arith, s .pre .2)) in
+    rw q (behead-become ws down (g .tag) k (s .pre .1) (s .pre .2) (packetsAt + 4 * c .before .before .before .before .before .lengths-below2 .result) (packetsAt + 4 * c .before .before .before .before .before .before .before .lengths-below .result)
+    (word down (lengthsAt + placeOf (turnsAt ws) (g .tag)) - 1) (ap (λ m. packetsAt + 4 * m) a ∙ ap (λ m. packetsAt + 4 * lengthsBelow ws m) q) (ap (λ m. packetsAt + 4 * m) e) (c .before .before .before .move-down .ensures) v)
 
 pub behead-spec : {M : Type 1} → statement M
 behead-spec =

@@ -3,7 +3,7 @@ use lib.ListN.{length-set}
 use Rattle.words.proofs.Shift.{lengths-next}
 use Rattle.words.proofs.TableReads.{lengths-most}
 use Rattle.words.proofs.JoinTake.{joined-become}
-use Rattle.words.specs.Places.{word, placeOf, lengthsBelow}
+use Rattle.words.specs.Places.{word, placeOf, lengthsBelow, lengthsAt, packetsAt}
 use Rattle.words.specs.Contents.{contents, turnsAt}
 use native.Mathlib.Omega.{arith}
 use mathlib.Core.Path.{_≡_, refl, ap, _∙_}
@@ -86,7 +86,7 @@ add-ws-2 c =
     let e = c .before .before .before .before .before .before .before .before .before .before .before .lengths-below .ensures .0 in
     let l = lengths-most ws P 64 small in
     let n = ap (lengthsBelow ws) (one-more P) ∙ lengths-next ws P in
-    let b = c .before .before .before .write-packet .ensures .below (211 + P) (omega arith) ∙ c .before .before .before .before .before .before .before .move-up .ensures .below (211 + P) (omega arith) in
+    let b = c .before .before .before .write-packet .ensures .below (lengthsAt + P) (omega arith) ∙ c .before .before .before .before .before .before .before .move-up .ensures .below (lengthsAt + P) (omega arith) in
     record { fits = omega (arith, s .pre .2) }
 
 add-ws-3 : tie.Need-add-ws-3
@@ -115,9 +115,9 @@ returns c =
     let g = s .args in
     let q = c .before .before .before .before .before .before .before .before .before .before .before .before .before .place-of .ensures .0 in
     let placed = c .before .before .before .write-packet .last .0 in
-    rw q (joined-become ws (c .before .before .before .before .before .before .before .move-up .last .0) placed (g .tag) (record { serial = g .serial; connection = g .connection; units = g .units; arrival = g .arrival })
-    k (s .pre .1) (s .pre .2) (275 + 4 * c .before .before .before .before .before .before .before .before .before .lengths-below2 .result) (275 + 4 * c .before .before .before .before .before .before .before .before .before .before .before .lengths-below .result) (word placed (211 + placeOf (turnsAt ws) (g .tag)) + 1)
-    (ap (λ m. 275 + 4 * m) a ∙ ap (λ m. 275 + 4 * lengthsBelow ws (m + 1)) q) (ap (λ m. 275 + 4 * m) e) (c .before .before .before .before .before .before .before .move-up .ensures) (c .before .before .before .write-packet .ensures) refl)
+    rw q (joined-become ws (c .before .before .before .before .before .before .before .move-up .last .0) placed (g .tag) (g .p)
+    k (s .pre .1) (s .pre .2) (packetsAt + 4 * c .before .before .before .before .before .before .before .before .before .lengths-below2 .result) (packetsAt + 4 * c .before .before .before .before .before .before .before .before .before .before .before .lengths-below .result) (word placed (lengthsAt + placeOf (turnsAt ws) (g .tag)) + 1)
+    (ap (λ m. packetsAt + 4 * m) a ∙ ap (λ m. packetsAt + 4 * lengthsBelow ws (m + 1)) q) (ap (λ m. packetsAt + 4 * m) e) (c .before .before .before .before .before .before .before .move-up .ensures) (c .before .before .before .write-packet .ensures) refl)
 
 pub join-spec : {M : Type 1} → statement M
 join-spec =

@@ -1,5 +1,5 @@
 -- `words::queues::lowest_tag` meets its contract.
-use Rattle.meaning.specs.Box.{Packet}
+use Rattle.meaning.specs.declared.Packet.{Packet}
 use mathlib.Core.List.{List}
 use Rattle.meaning.specs.Numbers.{largestFactor}
 use Rattle.words.specs.Changes.{lowestTag}

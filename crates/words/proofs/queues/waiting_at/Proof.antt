@@ -1,6 +1,6 @@
 -- `words::queues::waiting_at` meets its contract.
 use Rattle.words.proofs.Same.{waiting-length}
-use Rattle.words.specs.Places.{word}
+use Rattle.words.specs.Places.{word, lengthsAt}
 use Rattle.words.specs.Contents.{contents}
 use native.Mathlib.Omega.{arith}
 use mathlib.Core.Path.{sym, ap, _∙_}
@@ -30,7 +30,7 @@ unfolding contents
 returns c =
     let s = c .before .before .before .before in
     let ws = s .args .ws .now in
-    c .wide .ensures .0 ∙ ap (λ p. word ws (211 + p)) (c .before .before .place-of .ensures .0) ∙ sym (waiting-length ws (s .args .tag) (s .pre .1))
+    c .wide .ensures .0 ∙ ap (λ p. word ws (lengthsAt + p)) (c .before .before .place-of .ensures .0) ∙ sym (waiting-length ws (s .args .tag) (s .pre .1))
 
 pub waiting-at-spec : {M : Type 1} → statement M
 waiting-at-spec =

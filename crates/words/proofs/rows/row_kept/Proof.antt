@@ -1,6 +1,6 @@
 -- `words::rows::row_kept` meets its contract.
 use lib.Dec.{eqb}
-use Rattle.words.specs.Places.{word}
+use Rattle.words.specs.Places.{word, cycleAt, classesAt}
 use Rattle.laws.specs.Tests.{within, within-facts}
 use Rattle.words.proofs.TableReads.{row-parts}
 use mathlib.Core.Bool.{true, false, and-false}
@@ -27,7 +27,7 @@ returns : tie.Need-returns
 returns c =
     let ws = c .before .before .before .before .before .args .ws .now in
     let at = c .before .before .before .before .before .args .at in
-    let e : within 1 (word ws at) (word ws 2) ≡ false = sym (c .before .is-within .ensures) ∙ not-true _ (c .if1 .taken) in
+    let e : within 1 (word ws at) (word ws classesAt) ≡ false = sym (c .before .is-within .ensures) ∙ not-true _ (c .if1 .taken) in
     sym (row-parts ws at ∙ simp (e, and-false))
 
 add-is-within : tie.Need-add-is-within
@@ -87,7 +87,7 @@ returns-4 : tie.Need-returns-4
 returns-4 c =
     let ws = c .before .before .before .before .before .before .before .before .before .before .before .before .before .before .before .args .ws .now in
     let at = c .before .before .before .before .before .before .before .before .before .before .before .before .before .before .before .args .at in
-    let e : within 1 (word ws (at + 3)) (word ws 1) ≡ false = sym (c .before .is-within4 .ensures) ∙ not-true _ (c .if4 .taken) in
+    let e : within 1 (word ws (at + 3)) (word ws cycleAt) ≡ false = sym (c .before .is-within4 .ensures) ∙ not-true _ (c .if4 .taken) in
     sym (row-parts ws at ∙ simp (e, and-false))
 
 rem-if5 : tie.Need-rem-if5
@@ -97,7 +97,7 @@ returns-5 : tie.Need-returns-5
 returns-5 c =
     let ws = c .before .before .before .before .before .before .before .before .before .before .before .before .before .before .before .before .args .ws .now in
     let at = c .before .before .before .before .before .before .before .before .before .before .before .before .before .before .before .before .args .at in
-    let e : eqb (word ws 1 % word ws (at + 3)) 0 ≡ false = ne-eqb _ 0 (c .if5 .taken) in
+    let e : eqb (word ws cycleAt % word ws (at + 3)) 0 ≡ false = ne-eqb _ 0 (c .if5 .taken) in
     sym (row-parts ws at ∙ simp (e, and-false))
 
 shared-slice-read-allowance-kept : tie.Need-shared-slice-read-allowance-kept
@@ -128,11 +128,11 @@ returns-6 : tie.Need-returns-6
 returns-6 c =
     let ws = c .before .before .before .before .before .before .before .before .before .before .before .before .before .before .before .before .before .before .before .before .args .ws .now in
     let at = c .before .before .before .before .before .before .before .before .before .before .before .before .before .before .before .before .before .before .before .before .args .at in
-    let a : within 1 (word ws at) (word ws 2) ≡ true = sym (c .before .before .before .before .before .before .before .before .before .before .before .before .before .before .before .before .is-within .ensures) ∙ not-false _ (c .before .before .before .before .before .before .before .before .before .before .before .before .before .before .before .if1 .left) in
+    let a : within 1 (word ws at) (word ws classesAt) ≡ true = sym (c .before .before .before .before .before .before .before .before .before .before .before .before .before .before .before .before .is-within .ensures) ∙ not-false _ (c .before .before .before .before .before .before .before .before .before .before .before .before .before .before .before .if1 .left) in
     let b : within 1 (word ws (at + 1)) 64 ≡ true = sym (c .before .before .before .before .before .before .before .before .before .before .before .before .before .is-within2 .ensures) ∙ not-false _ (c .before .before .before .before .before .before .before .before .before .before .before .before .if2 .left) in
     let d : within 1 (word ws (at + 2)) 64 ≡ true = sym (c .before .before .before .before .before .before .before .before .before .before .is-within3 .ensures) ∙ not-false _ (c .before .before .before .before .before .before .before .before .before .if3 .left) in
-    let e : within 1 (word ws (at + 3)) (word ws 1) ≡ true = sym (c .before .before .before .before .before .before .is-within4 .ensures) ∙ not-false _ (c .before .before .before .before .before .if4 .left) in
-    let f : eqb (word ws 1 % word ws (at + 3)) 0 ≡ true = eq-eqb _ 0 (c .before .before .before .before .if5 .left) in
+    let e : within 1 (word ws (at + 3)) (word ws cycleAt) ≡ true = sym (c .before .before .before .before .before .before .is-within4 .ensures) ∙ not-false _ (c .before .before .before .before .before .if4 .left) in
+    let f : eqb (word ws cycleAt % word ws (at + 3)) 0 ≡ true = eq-eqb _ 0 (c .before .before .before .before .if5 .left) in
     sym (row-parts ws at ∙ simp (a, b, d, e, f) (sym (c .allowance-kept .ensures)))
 
 pub row-kept-spec : {M : Type 1} → statement M

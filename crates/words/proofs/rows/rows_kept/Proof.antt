@@ -2,7 +2,7 @@
 use Rattle.laws.specs.Series.{series, every-stop, every-next, every-end}
 use Rattle.words.specs.Tested.{rowKept}
 use Rattle.words.specs.Contents.{standingAt, standings}
-use Rattle.words.specs.Places.{word}
+use Rattle.words.specs.Places.{word, rowCountAt, rowsAt}
 use Rattle.laws.specs.Tests.{every}
 use borrow.Author.Tests.{not-true, not-false}
 use borrow.Author.Needs.{needs}
@@ -13,7 +13,7 @@ use Rattle.words.proofs.rows.rows_kept.Statement.{statement}
 use Rattle.words.proofs.rows.rows_kept.Tie as tie
 
 abbrev Inv-loop : tie.InvT-loop
-Inv-loop ws count at₀ i₀ at i = (i ≤ count) × (at ≡ 12 + 6 * i) × (count ≤ 32) × (every (rowKept ws) (series (standingAt ws) 6 at (count - i)) ≡ every (rowKept ws) (standings ws))
+Inv-loop ws count at₀ i₀ at i = (i ≤ count) × (at ≡ rowsAt + 6 * i) × (count ≤ 32) × (every (rowKept ws) (series (standingAt ws) 6 at (count - i)) ≡ every (rowKept ws) (standings ws))
 
 abbrev μ-loop : tie.MeasureT-loop
 μ-loop ws count at₀ i₀ at i = count - i
@@ -28,8 +28,8 @@ loop-holds : tie.Need-loop-holds Inv-loop μ-loop
 unfolding standings
 loop-holds c =
     let ws = c .before .before .before .args .ws .now in
-    let e : c .wide .result - 0 ≡ word ws 11 = omega arith in
-    (omega arith, omega arith, omega arith, ap (λ n. every (rowKept ws) (series (standingAt ws) 6 12 n)) e)
+    let e : c .wide .result - 0 ≡ word ws rowCountAt = omega arith in
+    (omega arith, omega arith, omega arith, ap (λ n. every (rowKept ws) (series (standingAt ws) 6 rowsAt n)) e)
 
 row-kept-requires : tie.Need-row-kept-requires Inv-loop μ-loop
 row-kept-requires c κs = omega arith

@@ -5,7 +5,7 @@ use Rattle.words.specs.Sound.{zeros}
 use Rattle.laws.specs.Series.{series, series-take}
 use Rattle.words.specs.Tested.{settingsTested}
 use Rattle.words.specs.Contents.{settingsAt}
-use Rattle.words.specs.Places.{word}
+use Rattle.words.specs.Places.{word, intervalAt, cycleAt, classesAt, factorsAt}
 use lib.ListN.{take, drop}
 use lib.Dec.{leb}
 use mathlib.Core.Bool.{true, false, and-false}
@@ -27,7 +27,7 @@ returns : tie.Need-returns
 unfolding settingsTested
 returns c =
     let ws = c .before .before .before .before .args .ws .now in
-    let e : leb (word ws 2) 8 ≡ false = lt-leb (word ws 2) 8 (omega (arith, c .before .wide .ensures .0)) in
+    let e : leb (word ws classesAt) 8 ≡ false = lt-leb (word ws classesAt) 8 (omega (arith, c .before .wide .ensures .0)) in
     simp e
 
 add-end : tie.Need-add-end
@@ -55,11 +55,11 @@ returns-2 : tie.Need-returns-2
 unfolding settingsTested settingsAt
 returns-2 c =
     let ws = c .before .before .before .before .before .before .before .before .before .args .ws .now in
-    let n : 3 + c .before .before .before .before .before .before .wide .result - 3 ≡ word ws 2 = omega (arith, c .before .before .before .before .before .before .wide .ensures .0) in
-    let s : take (3 + c .before .before .before .before .before .before .wide .result - 3) (drop 3 ws) ≡ series (λ i. word ws i) 1 3 (word ws 2) =
-    ap (λ m. take m (drop 3 ws)) n ∙ sym (series-take ws 3 (word ws 2) (omega (arith, c .before .before .before .before .before .if1 .left, c .before .before .before .before .before .before .wide .ensures .0, c .before .before .before .before .before .before .before .before .before .pre))) in
+    let n : factorsAt + c .before .before .before .before .before .before .wide .result - factorsAt ≡ word ws classesAt = omega (arith, c .before .before .before .before .before .before .wide .ensures .0) in
+    let s : take (factorsAt + c .before .before .before .before .before .before .wide .result - factorsAt) (drop factorsAt ws) ≡ series (λ i. word ws i) 1 factorsAt (word ws classesAt) =
+    ap (λ m. take m (drop factorsAt ws)) n ∙ sym (series-take ws factorsAt (word ws classesAt) (omega (arith, c .before .before .before .before .before .if1 .left, c .before .before .before .before .before .before .wide .ensures .0, c .before .before .before .before .before .before .before .before .before .pre))) in
     let e : settingsAllowed (settingsAt ws) ≡ false =
-    sym (ap (λ fs. settingsAllowed (asked (word ws 0) (word ws 1) fs)) s) ∙ sym (c .before .settings-allowed .ensures) ∙ not-true _ (c .if2 .taken) in
+    sym (ap (λ fs. settingsAllowed (asked (word ws intervalAt) (word ws cycleAt) fs)) s) ∙ sym (c .before .settings-allowed .ensures) ∙ not-true _ (c .if2 .taken) in
     simp (e, and-false)
 
 are-zero-requires : tie.Need-are-zero-requires
@@ -70,14 +70,14 @@ unfolding settingsTested settingsAt
 returns-3 c =
     let ws = c .before .before .before .before .before .before .before .before .before .before .args .ws .now in
     let w = c .before .before .before .before .before .before .before .wide .ensures .0 in
-    let n : 3 + c .before .before .before .before .before .before .before .wide .result - 3 ≡ word ws 2 = omega arith in
-    let s : take (3 + c .before .before .before .before .before .before .before .wide .result - 3) (drop 3 ws) ≡ series (λ i. word ws i) 1 3 (word ws 2) =
-    ap (λ m. take m (drop 3 ws)) n ∙ sym (series-take ws 3 (word ws 2) (omega (arith, c .before .before .before .before .before .before .if1 .left, c .before .before .before .before .before .before .before .before .before .before .pre))) in
+    let n : factorsAt + c .before .before .before .before .before .before .before .wide .result - factorsAt ≡ word ws classesAt = omega arith in
+    let s : take (factorsAt + c .before .before .before .before .before .before .before .wide .result - factorsAt) (drop factorsAt ws) ≡ series (λ i. word ws i) 1 factorsAt (word ws classesAt) =
+    ap (λ m. take m (drop factorsAt ws)) n ∙ sym (series-take ws factorsAt (word ws classesAt) (omega (arith, c .before .before .before .before .before .before .if1 .left, c .before .before .before .before .before .before .before .before .before .before .pre))) in
     let e : settingsAllowed (settingsAt ws) ≡ true =
-    sym (ap (λ fs. settingsAllowed (asked (word ws 0) (word ws 1) fs)) s) ∙ sym (c .before .before .settings-allowed .ensures) ∙ not-false _ (c .before .if2 .left) in
-    let l : leb (word ws 2) 8 ≡ true = le-leb (word ws 2) 8 (omega (arith, c .before .before .before .before .before .before .if1 .left)) in
-    let k : 11 - (3 + word ws 2) ≡ 8 - word ws 2 = omega arith in
-    c .are-zero .ensures ∙ ap (λ m. zeros ws (3 + m) (11 - (3 + m))) w ∙ ap (zeros ws (3 + word ws 2)) k ∙ sym (simp (l, e))
+    sym (ap (λ fs. settingsAllowed (asked (word ws intervalAt) (word ws cycleAt) fs)) s) ∙ sym (c .before .before .settings-allowed .ensures) ∙ not-false _ (c .before .if2 .left) in
+    let l : leb (word ws classesAt) 8 ≡ true = le-leb (word ws classesAt) 8 (omega (arith, c .before .before .before .before .before .before .if1 .left)) in
+    let k : factorsAt + 8 - (factorsAt + word ws classesAt) ≡ 8 - word ws classesAt = omega arith in
+    c .are-zero .ensures ∙ ap (λ m. zeros ws (factorsAt + m) (factorsAt + 8 - (factorsAt + m))) w ∙ ap (zeros ws (factorsAt + word ws classesAt)) k ∙ sym (simp (l, e))
 
 pub settings-tested-spec : {M : Type 1} → statement M
 settings-tested-spec =

@@ -2,7 +2,7 @@
 use Rattle.laws.specs.Deciding.{leb-same}
 use lib.Dec.{leb}
 use Rattle.words.specs.Tested.{countsTested}
-use Rattle.words.specs.Places.{word, lengthsBelow}
+use Rattle.words.specs.Places.{word, lengthsBelow, counterAt, acceptedAt}
 use mathlib.Core.Bool.{true, false, and-false}
 use borrow.Author.Tests.{le-leb, lt-leb, eq-eqb, ne-eqb}
 use native.Mathlib.Omega.{arith}
@@ -52,9 +52,9 @@ unfolding countsTested
 returns-3 c =
     let ws = c .before .before .before .before .before .before .before .before .before .before .before .args .ws .now in
     let n = c .before .before .before .before .before .before .before .lengths-below .ensures .0 in
-    let a : leb (word ws 204) 4000000000 ≡ true = le-leb _ _ (c .before .before .before .before .before .before .before .before .if1 .left) in
+    let a : leb (word ws counterAt) 4000000000 ≡ true = le-leb _ _ (c .before .before .before .before .before .before .before .before .if1 .left) in
     let b : leb (lengthsBelow ws 64) 1024 ≡ true = le-leb (lengthsBelow ws 64) 1024 (omega arith) in
-    leb-same (c .wide2 .result) (c .before .before .before .before .wide .result + c .before .before .before .before .before .before .before .lengths-below .result) (word ws 205) (word ws 204 + (lengthsBelow ws 64 + 0)) (λ h. omega arith) (λ h. omega arith) ∙
+    leb-same (c .wide2 .result) (c .before .before .before .before .wide .result + c .before .before .before .before .before .before .before .lengths-below .result) (word ws acceptedAt) (word ws counterAt + (lengthsBelow ws 64 + 0)) (λ h. omega arith) (λ h. omega arith) ∙
     sym (simp (a, b, eq-eqb _ _ (c .before .before .if3 .taken)))
 
 shared-slice-read-wide-3 : tie.Need-shared-slice-read-wide-3
@@ -71,9 +71,9 @@ unfolding countsTested
 returns-4 c =
     let ws = c .before .before .before .before .before .before .before .before .before .before .before .args .ws .now in
     let n = c .before .before .before .before .before .before .before .lengths-below .ensures .0 in
-    let a : leb (word ws 204) 4000000000 ≡ true = le-leb _ _ (c .before .before .before .before .before .before .before .before .if1 .left) in
+    let a : leb (word ws counterAt) 4000000000 ≡ true = le-leb _ _ (c .before .before .before .before .before .before .before .before .if1 .left) in
     let b : leb (lengthsBelow ws 64) 1024 ≡ true = le-leb (lengthsBelow ws 64) 1024 (omega arith) in
-    leb-same (c .wide3 .result) (c .before .before .before .before .wide .result + c .before .before .before .before .before .before .before .lengths-below .result + 1) (word ws 205) (word ws 204 + (lengthsBelow ws 64 + 1)) (λ h. omega arith) (λ h. omega arith) ∙
+    leb-same (c .wide3 .result) (c .before .before .before .before .wide .result + c .before .before .before .before .before .before .before .lengths-below .result + 1) (word ws acceptedAt) (word ws counterAt + (lengthsBelow ws 64 + 1)) (λ h. omega arith) (λ h. omega arith) ∙
     sym (simp (a, b, ne-eqb _ _ (c .before .before .if3 .left)))
 
 pub counts-tested-spec : {M : Type 1} → statement M

@@ -1,5 +1,5 @@
 -- `words::soundness::is_sound` meets its contract.
-use Rattle.words.specs.Places.{word, lengthsBelow}
+use Rattle.words.specs.Places.{word, lengthsBelow, counterAt, boxWords}
 use mathlib.Core.Bool.{and-eq-true-iff}
 use lib.Dec.{leb}
 use Rattle.words.proofs.TableReads.{tables-tested}
@@ -67,16 +67,16 @@ unfolding countsTested
 queues-tested-requires c κs =
     let ws = c .before .before .before .before .before .before .before .before .before .before .args .ws .now in
     let t = sym (c .before .before .before .counts-tested .ensures) ∙ not-false _ (c .before .before .if4 .left) in
-    let a = and-eq-true-iff (leb (word ws 204) 4000000000 && leb (lengthsBelow ws 64) 1024) _ .0 t in (
+    let a = and-eq-true-iff (leb (word ws counterAt) 4000000000 && leb (lengthsBelow ws 64) 1024) _ .0 t in (
       tables-tested ws (c .before .before .before .before .before .before .before .before .if1 .left) (sym (c .before .before .before .before .before .before .before .settings-tested .ensures) ∙ not-false _ (c .before .before .before .before .before .before .if2 .left)) (sym (c .before .before .before .before .before .rows-tested .ensures) ∙ not-false _ (c .before .before .before .before .if3 .left)),
-      leb-true (lengthsBelow ws 64) 1024 (and-eq-true-iff (leb (word ws 204) 4000000000) (leb (lengthsBelow ws 64) 1024) .0 (a .0) .1),
+      leb-true (lengthsBelow ws 64) 1024 (and-eq-true-iff (leb (word ws counterAt) 4000000000) (leb (lengthsBelow ws 64) 1024) .0 (a .0) .1),
     )
 
 returns-6 : tie.Need-returns-6
 unfolding tested
 returns-6 c =
     let ws = c .before .before .before .before .before .before .before .before .before .before .before .args .ws .now in
-    let l : leb 4371 (length ws) ≡ true = le-leb _ _ (c .before .before .before .before .before .before .before .before .before .if1 .left) in
+    let l : leb boxWords (length ws) ≡ true = le-leb _ _ (c .before .before .before .before .before .before .before .before .before .if1 .left) in
     let s : settingsTested ws ≡ true = sym (c .before .before .before .before .before .before .before .before .settings-tested .ensures) ∙ not-false _ (c .before .before .before .before .before .before .before .if2 .left) in
     let r : rowsTested ws ≡ true = sym (c .before .before .before .before .before .before .rows-tested .ensures) ∙ not-false _ (c .before .before .before .before .before .if3 .left) in
     let n : countsTested ws ≡ true = sym (c .before .before .before .before .counts-tested .ensures) ∙ not-false _ (c .before .before .before .if4 .left) in

@@ -1,7 +1,7 @@
 -- `words::soundness::largest_factor` meets its contract.
 use Prim.Native.Nat.{_+_, _-_}
 use Rattle.words.proofs.TableReads.{largest-at}
-use Rattle.words.specs.Places.{word}
+use Rattle.words.specs.Places.{word, factorsAt}
 use mathlib.Core.Path.{sym, ap, _∙_}
 use borrow.Author.Needs.{needs}
 use Rattle.words.proofs.soundness.largest_factor.Statement.{statement}
@@ -29,7 +29,7 @@ returns : tie.Need-returns
 returns c =
     let s = c .before .before .before .before .before in
     let ws = s .args .ws .now in
-    (c .wide2 .ensures .0 ∙ ap (λ n. word ws (2 + n)) (c .before .before .wide .ensures .0) ∙ sym (largest-at ws (s .pre .1)), c .wide2 .ensures .1)
+    (c .wide2 .ensures .0 ∙ ap (λ n. word ws (factorsAt - 1 + n)) (c .before .before .wide .ensures .0) ∙ sym (largest-at ws (s .pre .1)), c .wide2 .ensures .1)
 
 pub largest-factor-spec : {M : Type 1} → statement M
 largest-factor-spec =
