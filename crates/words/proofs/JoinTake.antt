@@ -14,7 +14,7 @@ use Rattle.words.specs.Sound.{Fitting}
 use Rattle.words.specs.Changes.{Become, withQueues, MovedUp, MovedDown, PacketPut}
 use Rattle.words.proofs.Rotation.{place-below}
 use Rattle.words.proofs.TableReads.{lengths-most}
-use Rattle.words.proofs.Moving.{word-other, word-same}
+use Rattle.words.proofs.Storing.{word-other, word-same}
 use Rattle.words.proofs.Same.{packet-same, queue-tagged-at}
 use Rattle.words.proofs.QueueLaws.{join-sets}
 use Rattle.words.proofs.Shift.{Shifted, lengths-next, start-is, start-same, total-moved, shifted-become}

@@ -8,6 +8,7 @@ pub mod TableReads
 pub mod QueuesTested
 pub mod TestedSound
 pub mod NewBox
+pub mod Storing
 pub mod Moving
 pub mod Same
 pub mod QueueLaws
@@ -18,5 +19,6 @@ pub mod PassedTo
 pub mod LinkWritten
 pub mod Loading
 pub mod RowChanges
+pub mod Becoming
 pub mod Readings
 pub mod Settles

@@ -15,7 +15,7 @@ use Rattle.words.specs.Places.{word, leftAt, linkAt}
 use Rattle.words.specs.Contents.{packetAt, noPacket}
 use Rattle.words.specs.Sound.{zeros, linkClear, Fitting}
 use Rattle.words.specs.Changes.{PacketPut}
-use Rattle.words.proofs.Moving.{word-same}
+use Rattle.words.proofs.Storing.{word-same}
 
 -- Four words of the link that are 0 are a stretch of zeros.
 four-zeros : (ws : List ℕ) → word ws linkAt ≡ 0 → word ws (linkAt + 1) ≡ 0 → word ws (linkAt + 2) ≡ 0 → word ws (linkAt + 3) ≡ 0 → zeros ws linkAt 4 ≡ true

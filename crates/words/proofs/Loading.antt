@@ -26,7 +26,7 @@ use Rattle.words.proofs.TestedSound.{sound-queues}
 use Rattle.words.proofs.Same.{queue-tagged-at, waiting-length}
 use Rattle.words.proofs.QueueLaws.{take-sets, take-none, take-head}
 use Rattle.words.proofs.Shift.{start-is}
-use Rattle.words.proofs.SmallChanges.{become-then}
+use Rattle.words.proofs.Becoming.{become-then}
 
 pub link-free : (ws : List ℕ) → word ws leftAt ≡ 0 → contents ws .link ≡ free
 unfolding contents linkOf

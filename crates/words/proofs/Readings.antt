@@ -1,19 +1,15 @@
--- What a caller reads of the contents, as the words that the inner functions ask about; and sound contents that words become are sound words.
+-- What a caller reads of the contents, as the words that the inner functions ask about.
 use Prim.Native.Nat.{ℕ}
-use mathlib.Core.Path.{_≡_, refl, sym, ap, _∙_}
-use mathlib.Core.Bool.{true}
+use mathlib.Core.Path.{_≡_, refl, sym}
 use mathlib.Core.List.{List}
-use native.Mathlib.Omega.{arith}
 use lib.ListN.{length}
 use Rattle.meaning.specs.Numbers.{classCount}
-use Rattle.meaning.specs.Box.{Box, waiting, sound}
+use Rattle.meaning.specs.Box.{waiting}
 use Rattle.words.specs.Places.{word, lengthsBelow, intervalAt, cycleAt, classesAt, rowCountAt, counterAt, acceptedAt}
 use Rattle.words.specs.Contents.{contents, settingsAt}
-use Rattle.words.specs.Sound.{Fitting, soundWords}
-use Rattle.words.specs.Changes.{Become}
+use Rattle.words.specs.Sound.{Fitting}
 use Rattle.words.proofs.PutContents.{class-count, row-count}
-use Rattle.words.proofs.Counts.{waiting-count, sound-put}
-use Rattle.words.proofs.Same.{become-put}
+use Rattle.words.proofs.Counts.{waiting-count}
 
 pub interval-word : (ws : List ℕ) → contents ws .settings .interval ≡ word ws intervalAt
 unfolding contents settingsAt
@@ -41,8 +37,3 @@ accepted-word ws = refl
 
 pub waiting-word : (ws : List ℕ) → Fitting ws → length (waiting (contents ws)) ≡ lengthsBelow ws 64
 waiting-word ws k = sym (waiting-count ws (k .untagged) (k .largest))
-
--- words that become those of a sound box are sound words
-pub become-sound : (ws after : List ℕ) (box : Box) → Become ws after box → sound box ≡ true → soundWords after ≡ true
-become-sound ws after box b e =
-    ap soundWords (become-put ws after box b) ∙ sound-put box ws e (omega (arith, b .fitting .enough, b .same-length))

@@ -16,7 +16,7 @@ use Rattle.words.specs.Contents.{contents, standings, standingAt}
 use Rattle.words.specs.Sound.{zeros, Fitting}
 use Rattle.words.specs.Changes.{Become, RowPut}
 use Rattle.words.proofs.TableReads.{connection-at}
-use Rattle.words.proofs.Moving.{word-other, word-same}
+use Rattle.words.proofs.Storing.{word-other, word-same}
 use Rattle.words.proofs.Same.{settings-same, standing-same, packet-same, zeros-same, turns-same, link-clear-same, lengths-same, queues-same, untagged-same}
 
 -- a change of rows alone

@@ -12,12 +12,9 @@ use Rattle.laws.specs.Series.{getD-series, series-same}
 use Rattle.laws.specs.Tests.{every}
 use Rattle.meaning.specs.Numbers.{largestFactor}
 use Rattle.meaning.specs.declared.Packet.{Packet}
-use Rattle.meaning.specs.Box.{Box}
 use Rattle.words.specs.Places.{word, lengthsBelow, startOf, placeOf, intervalAt, cycleAt, classesAt, factorsAt, rowCountAt, rowsAt, counterAt, leftAt, linkAt, lengthsAt, packetsAt}
-use Rattle.words.specs.Contents.{contents, settingsAt, standings, standingAt, packetAt, turnsAt, queueAt, queuesAt, put}
+use Rattle.words.specs.Contents.{contents, settingsAt, standings, standingAt, packetAt, turnsAt, queueAt, queuesAt}
 use Rattle.words.specs.Sound.{zeros, linkClear, emptyFrom, untaggedEmpty, Fitting}
-use Rattle.words.specs.Changes.{Become}
-use Rattle.words.proofs.PutContents.{put-from}
 use Rattle.words.proofs.ContentsPut.{length-queue}
 
 -- the contents of a tagged queue
@@ -81,12 +78,6 @@ module _ (ws after : List ℕ) where
   drop-same n l e =
       ext-getD 0 (drop n after) (drop n ws) (rw (length-drop n after, length-drop n ws, l))
       (λ i h. getD-drop n after i 0 ∙ e (n + i) (omega arith) ∙ sym (getD-drop n ws i 0))
-
-  -- words that become those of a box are the box put into them
-  pub become-put : (box : Box) → Become ws after box → after ≡ put box ws
-  become-put box b =
-      put-from ws after box (b .fitting) (b .stands-for)
-      (drop-same (packetsAt + 4 * lengthsBelow after 64) (b .same-length) (b .beyond))
 
 -- words whose tables of settings and connections stay, with a clear link and queues in order, are fitting
 pub fitting-kept : (ws after : List ℕ) → Fitting ws → length after ≡ length ws

@@ -23,23 +23,9 @@ use Rattle.words.specs.Sound.{linkClear, emptyFrom, untaggedEmpty, Fitti
 use Rattle.words.specs.Changes.{Become, withAccepted, withLink, raised, PacketPut}
 use Rattle.words.proofs.PutContents.{untagged-zero, queue-untagged}
 use Rattle.words.proofs.ContentsPut.{length-queue}
-use Rattle.words.proofs.Counts.{waiting-count}
 use Rattle.words.proofs.Rotation.{place-turned, place-whole}
-use Rattle.words.proofs.Moving.{word-other, word-same}
+use Rattle.words.proofs.Storing.{word-other, word-same}
 use Rattle.words.proofs.Same.{settings-same, standings-same, packet-same, turns-same, fitting-kept, link-clear-same, lengths-same, queue-same, queues-same, untagged-same}
-
--- one change after another is one change, where the first leaves no more packets than the second
-pub become-then : (ws mid after : List ℕ) (first second : Box) → Become ws mid first → Become mid after second
-    → length (waiting first) ≤ length (waiting second) → Become ws after second
-become-then ws mid after first second a b h =
-    (let m = waiting-count mid (a .fitting .untagged) (a .fitting .largest) ∙ ap (λ x. length (waiting x)) (a .stands-for) in
-    let n = waiting-count after (b .fitting .untagged) (b .fitting .largest) ∙ ap (λ x. length (waiting x)) (b .stands-for) in
-    record {
-      fitting = b .fitting;
-      stands-for = b .stands-for;
-      same-length = b .same-length ∙ a .same-length;
-      beyond = λ i l. b .beyond i l ∙ a .beyond i (omega arith);
-    })
 
 -- the count of accepted packets
 pub accepted-become : (ws : List ℕ) (v : ℕ) → Fitting ws → Become ws (set ws acceptedAt v) (withAccepted (contents ws) v)

@@ -1,6 +1,6 @@
 -- `words::moves::write_packet` meets its contract.
 use lib.ListN.{length-set}
-use Rattle.words.proofs.Moving.{packet-stored}
+use Rattle.words.proofs.Storing.{packet-stored}
 use native.Mathlib.Omega.{arith}
 use Prim.Native.Nat.{_-_}
 use borrow.Author.Needs.{needs}
