@@ -6,7 +6,7 @@ use mathlib.Core.List.{List}
 use Rattle.meaning.specs.Answers.{Answer}
 use Rattle.meaning.specs.declared.Connection.{Connection}
 use Rattle.meaning.specs.Plan.{Lent}
-use Rattle.words.proofs.Settles.{one}
+use Rattle.tables.proofs.Settles.{one}
 use Rattle.cabinet.specs.Told.{Told}
 use Rattle.cabinet.specs.Promises.{BoxWordsPromise, OpenPromise, SoundPromise, AdmitPromise, OfferPromise, StepPromise, ReadPromise, FactorPromise, ConnectionPromise, ArrivalPromise, StretchPromise, WritePromise, RunPromise}
 

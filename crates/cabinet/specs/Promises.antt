@@ -9,7 +9,7 @@ use Rattle.meaning.specs.Answers
 use Rattle.meaning.specs.declared.Connection.{Connection}
 use Rattle.meaning.specs.Plan.{Lent, wordsOf, factorAt, connectionAt, arrivalAt, connectionWords, arrivalWords, readingAnswer, writingAnswer}
 use Rattle.words.specs.Places.{boxWords}
-use Rattle.words.specs.Opening
+use Rattle.tables.specs.Opening
 use Rattle.words.specs.Sound.{soundWords}
 use Rattle.multiplexer.specs.Promised.{admission, wordsAdmitted, offering, wordsOffered, stepping, wordsStepped}
 use Rattle.plan.specs.Written.{bytesAfter}

@@ -6,9 +6,9 @@ use super::telling::tell_stepped;
 use multiplexer::admitting::admit;
 use multiplexer::offering::offer;
 use multiplexer::stepping::step;
-use words::opening::open;
+use soundness::testing::is_sound;
+use tables::opening::open;
 use words::places::BOX_WORDS;
-use words::soundness::is_sound;
 ghost use Rattle.cabinet.specs.Promises.{BoxWordsPromise, OpenPromise, SoundPromise, AdmitPromise, OfferPromise, StepPromise};
 
 // "A box takes one fixed number of words".

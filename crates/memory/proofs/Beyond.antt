@@ -17,7 +17,7 @@ use Rattle.meaning.proofs.KeepsSound.{new-box-sound}
 use Rattle.words.specs.Places.{boxWords}
 use Rattle.words.specs.Contents.{contents, image, put}
 use Rattle.words.specs.Sound.{soundWords}
-use Rattle.words.specs.Opening.{opened, afterOpening}
+use Rattle.tables.specs.Opening.{opened, afterOpening}
 use Rattle.words.proofs.ContentsPut.{sound-puttable}
 use Rattle.words.proofs.Counts.{image-size, length-put, sound-fitting}
 use Rattle.words.proofs.TestedSound.{sound-contents}
@@ -25,7 +25,7 @@ use Rattle.multiplexer.specs.Promised.{wordsAfter, wordsAdmitted, wordsOffered,
 use Rattle.guarantees.specs.Runs.{Call, admit, offer, step, after}
 use Rattle.guarantees.proofs.Always.{sound-after}
 use Rattle.memory.specs.Runs.{leftBy, leftByRun, BeyondKept}
-use Rattle.words.proofs.Opened.{opened-allowed, words-enough}
+use Rattle.tables.proofs.Opened.{opened-allowed, words-enough}
 
 -- The words of a sound box take none of them.
 put-beyond : (box : Box) (ws : List ℕ) → sound box ≡ true → boxWords ≤ length ws → BeyondKept ws (put box ws)

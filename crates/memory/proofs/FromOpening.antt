@@ -7,8 +7,8 @@ use Rattle.meaning.specs.declared.Opened.{Opened}
 use Rattle.meaning.specs.Numbers.{Settings}
 use Rattle.meaning.specs.Calls.{newBox}
 use Rattle.words.specs.Sound.{soundWords}
-use Rattle.words.specs.Opening.{opened}
-use Rattle.words.proofs.Opened.{opened-sound, opened-new}
+use Rattle.tables.specs.Opening.{opened}
+use Rattle.tables.proofs.Opened.{opened-sound, opened-new}
 use Rattle.guarantees.specs.Runs.{Call, boxOf, boxAfter, trace}
 use Rattle.memory.specs.Runs.{openedTrace, openedWords, openedBox}
 use Rattle.memory.proofs.RunOnWords.{run-on-words}

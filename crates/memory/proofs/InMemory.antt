@@ -22,7 +22,7 @@ use Rattle.meaning.specs.Calls.{newBox, withNewcomer, admissionAnswer, offerAns
 use Rattle.meaning.specs.Step.{stepAnswer, afterStep}
 use Rattle.words.specs.Contents.{contents}
 use Rattle.words.specs.Sound.{soundWords}
-use Rattle.words.specs.Opening.{opened}
+use Rattle.tables.specs.Opening.{opened}
 use Rattle.words.proofs.TestedSound.{sound-contents}
 use Rattle.multiplexer.specs.Promised.{admission, offering, stepping, wordsStepped}
 use Rattle.guarantees.specs.Runs.{Call, step, Departure, boxOf, after, trace, acceptedIn, departedIn, inOrder, slotsOf, WithinEnvelope, timesAmong, timesDeparted, dueBy, countFrom, InBox}
@@ -33,7 +33,7 @@ use Rattle.guarantees.proofs.Turning
 use Rattle.guarantees.proofs.Isolated
 use Rattle.memory.specs.Runs.{leftBy, openedTrace, openedWords, openedBox}
 use Rattle.memory.proofs.RunOnWords.{left-by-call}
-use Rattle.words.proofs.Opened.{opened-allowed}
+use Rattle.tables.proofs.Opened.{opened-allowed}
 use Rattle.memory.proofs.FromOpening.{run-from-opening}
 
 -- The answer of an offer or a step on sound words is that of their contents.

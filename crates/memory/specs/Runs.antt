@@ -8,7 +8,7 @@ use Rattle.meaning.specs.Numbers.{Settings}
 use Rattle.meaning.specs.Box.{Box}
 use Rattle.words.specs.Places.{boxWords}
 use Rattle.words.specs.Contents.{contents}
-use Rattle.words.specs.Opening.{opened}
+use Rattle.tables.specs.Opening.{opened}
 use Rattle.multiplexer.specs.Promised.{admission, wordsAdmitted, offering, wordsOffered, stepping, wordsStepped}
 use Rattle.guarantees.specs.Runs.{Call, admit, offer, step, Reply, toAdmission, toOffer, toStep, Event}
 

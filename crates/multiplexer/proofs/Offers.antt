@@ -26,11 +26,13 @@ use Rattle.meaning.specs.declared.Standing.{Standing}
 use Rattle.words.specs.Places.{word, lengthsBelow, classesAt, factorsAt, rowCountAt, acceptedAt}
 use Rattle.words.specs.Contents.{contents, settingsAt, standings}
 use Rattle.words.specs.Sound.{Fitting, soundWords}
-use Rattle.words.specs.Changes.{Become, withQueues, withAccepted}
+use Rattle.words.specs.Changes.{Become}
+use Rattle.store.specs.StoreChanges.{withQueues}
+use Rattle.tables.specs.TableChanges.{withAccepted}
 use Rattle.words.proofs.Counts.{sound-fitting, waiting-count}
 use Rattle.words.proofs.PutContents.{row-count}
 use Rattle.words.proofs.TestedSound.{sound-contents}
-use Rattle.words.proofs.SmallChanges.{become-then}
+use Rattle.words.proofs.Becoming.{become-then}
 use Rattle.admission.proofs.Tables.{class-count, factor-is}
 use Rattle.envelope.specs.Record.{sender, Ready}
 use Rattle.multiplexer.specs.Promised.{Leaves, RowReady, Acceptable, acceptedBox}

@@ -7,7 +7,7 @@ use Rattle.meaning.specs.declared.Admitted.{Admitted}
 use Rattle.meaning.specs.declared.Offered.{Offered}
 use Rattle.meaning.specs.declared.Stepped.{Stepped}
 use Rattle.meaning.specs.declared.Connection.{Connection}
-use Rattle.words.proofs.Settles.{one}
+use Rattle.tables.proofs.Settles.{one}
 use Rattle.multiplexer.specs.Promises.{AdmitPromise, OfferPromise, StepPromise, AdmitSoundPromise, OfferSoundPromise, StepSoundPromise}
 
 -- `multiplexer::admitting::admit`

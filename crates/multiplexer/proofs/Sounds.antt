@@ -14,7 +14,7 @@ use Rattle.words.specs.Changes.{Become}
 use Rattle.words.proofs.PutContents.{put-contents}
 use Rattle.words.proofs.Counts.{sound-put, sound-fitting}
 use Rattle.words.proofs.TestedSound.{sound-contents}
-use Rattle.words.proofs.Same.{become-put}
+use Rattle.words.proofs.Becoming.{become-put}
 use Rattle.multiplexer.specs.Promised.{Leaves, wordsAfter}
 
 -- The facts of sound contents.

@@ -20,9 +20,11 @@ use Rattle.meaning.proofs.QueueLaws.{turned-length}
 use Rattle.words.specs.Places.{word, intervalAt, counterAt}
 use Rattle.words.specs.Contents.{contents, linkOf, settingsAt}
 use Rattle.words.specs.Sound.{Fitting, soundWords}
-use Rattle.words.specs.Changes.{Become, withLink, withQueues, raised, loadedBox}
+use Rattle.words.specs.Changes.{Become}
+use Rattle.tables.specs.TableChanges.{withLink, raised}
+use Rattle.store.specs.StoreChanges.{withQueues, loadedBox}
 use Rattle.words.proofs.ContentsPut.{link-carries}
-use Rattle.words.proofs.SmallChanges.{become-then}
+use Rattle.words.proofs.Becoming.{become-then}
 use Rattle.words.proofs.TestedSound.{sound-contents}
 use Rattle.multiplexer.specs.Promised.{Leaves, sentBox}
 use Rattle.multiplexer.proofs.Sounds.{leaves-same, leaves}

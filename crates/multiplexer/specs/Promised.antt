@@ -19,7 +19,7 @@ use Rattle.meaning.specs.Step.{linkSent, stepAnswer, afterStep}
 use Rattle.meaning.specs.declared.Standing.{Standing}
 use Rattle.words.specs.Contents.{contents, put}
 use Rattle.words.specs.Sound.{soundWords}
-use Rattle.words.specs.Changes.{withLink}
+use Rattle.tables.specs.TableChanges.{withLink}
 
 -- The words of this box where these words were sound; else these words.
 unfoldable pub wordsAfter : List ℕ → Box → List ℕ

@@ -1,13 +1,13 @@
 // One step. Document 01, "Queues and steps", second paragraph.
 use meaning::Packet;
 use meaning::Stepped;
-use words::parts::counter;
-use words::parts::raise_counter;
-use words::parts::read_link;
-use words::parts::write_link;
-use words::queues::load_link;
-use words::queues::tag_zero_waits;
-use words::soundness::is_sound;
+use soundness::testing::is_sound;
+use store::queues::load_link;
+use store::queues::tag_zero_waits;
+use tables::counter::counter;
+use tables::counter::raise_counter;
+use tables::link::read_link;
+use tables::link::write_link;
 ghost use mathlib.Core.Path.{_≡_};
 ghost use mathlib.Core.Bool.{true, false, _&&_};
 ghost use Prim.Native.Nat.{suc, _<_, _≤_};

@@ -131,7 +131,7 @@ fn open(ws: &mut [u32], factors: &[u32], d: u32, m: u32, count: u32, words: u32)
     if k > ws.len() {
         return;
     }
-    show_opened(words::opening::open(&mut ws[..k], d, m, &factors[..n]));
+    show_opened(tables::opening::open(&mut ws[..k], d, m, &factors[..n]));
 }
 
 // Makes the call whose row starts at the word `at` of the list.

@@ -16,7 +16,7 @@ use Rattle.meaning.specs.Box.{Box, Link, free, carries, waiting, onLink, packet
 use Rattle.meaning.specs.Step.{loaded, linkTaken, queuesTaken, sentAnswer, linkSent, turnDue, stepAnswer, queuesStepped, moved, afterStep}
 use Rattle.meaning.proofs.QueueLaws.{nothing-taken}
 use Rattle.meaning.proofs.KeepsSound.{step-keeps-sound}
-use Rattle.words.specs.Changes.{withCounter}
+use Rattle.tables.specs.TableChanges.{withCounter}
 
 -- Queues in which nothing waits.
 none-lowest : (qs : List (List Packet)) → length (flatten qs) ≡ 0 → lowestHead qs ≡ none

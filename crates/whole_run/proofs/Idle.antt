@@ -20,7 +20,8 @@ use Rattle.meaning.proofs.SlotsEnough.{potential}
 use Rattle.meaning.proofs.RestOfRun.{restOf, dueNow, afterAnswer, rest-goes-on, slot-falls}
 use Rattle.words.specs.Contents.{contents}
 use Rattle.words.specs.Sound.{soundWords}
-use Rattle.words.specs.Changes.{Become, withCounter}
+use Rattle.words.specs.Changes.{Become}
+use Rattle.tables.specs.TableChanges.{withCounter}
 use Rattle.words.proofs.TestedSound.{sound-contents}
 use Rattle.plan.specs.Parts.{arrivalsIn, leading}
 use Rattle.plan.specs.Slots.{slot-together, leading-next}

@@ -4,7 +4,7 @@ use mathlib.Core.Path.{_≡_, sym, _∙_}
 use mathlib.Core.List.{List}
 use native.Mathlib.Omega.{arith}
 use lib.Seq.{ext-getD}
-use Rattle.words.proofs.Settles.{one}
+use Rattle.tables.proofs.Settles.{one}
 use Rattle.whole_run.specs.declared.running.Printed.{Printed}
 use Rattle.whole_run.specs.Printing.{RunPromise}
 use Rattle.whole_run.specs.Rooms.{Zeros}

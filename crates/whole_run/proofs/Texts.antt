@@ -19,8 +19,8 @@ use Rattle.meaning.proofs.RunFits.{run-fits}
 use Rattle.words.specs.Places.{boxWords}
 use Rattle.words.specs.Contents.{contents}
 use Rattle.words.specs.Sound.{soundWords}
-use Rattle.words.specs.Opening as openings
-use Rattle.words.proofs.Opened.{opened-sound, opened-new}
+use Rattle.tables.specs.Opening as openings
+use Rattle.tables.proofs.Opened.{opened-sound, opened-new}
 use Rattle.plan.specs.Parts.{partOf}
 use Rattle.plan.specs.Good.{Readable, read-back}
 use Rattle.lines.specs.Put.{Room, Put}

@@ -20,7 +20,7 @@ use Rattle.meaning.specs.Lines.{textOf}
 use Rattle.meaning.proofs.SlotsEnough.{admissions-weight}
 use Rattle.meaning.proofs.RestOfRun.{restOf, open-run}
 use Rattle.words.specs.Contents.{contents}
-use Rattle.words.specs.Opening.{asked}
+use Rattle.tables.specs.Opening.{asked}
 use Rattle.plan.specs.Entries.{take-table}
 use Rattle.plan.specs.Parts.{partOf, arrivalsIn}
 use Rattle.plan.specs.Good.{Readable, classes-hold, connections-hold, arrivals-hold, never-falling}

@@ -11,7 +11,7 @@ use plan::tables::arrivals;
 use plan::tables::classes;
 use plan::tables::connections;
 use plan::tables::factor;
-use words::opening::open;
+use tables::opening::open;
 ghost use Prim.Native.Nat.{_≤_};
 ghost use mathlib.Core.Path.{_≡_};
 ghost use mathlib.Core.Bool.{true};

@@ -1,24 +1,12 @@
--- The laws of the layout.
+-- Laws of the layout and of soundness, and how contents change with words.
 pub mod Rotation
 pub mod PutContents
 pub mod ContentsPut
-pub mod Counts
-pub mod Opened
 pub mod TableReads
+pub mod Counts
 pub mod QueuesTested
 pub mod TestedSound
-pub mod NewBox
-pub mod Storing
-pub mod Moving
 pub mod Same
-pub mod QueueLaws
-pub mod Shift
-pub mod JoinTake
-pub mod SmallChanges
-pub mod PassedTo
-pub mod LinkWritten
-pub mod Loading
-pub mod RowChanges
+pub mod Storing
 pub mod Becoming
 pub mod Readings
-pub mod Settles

@@ -10,7 +10,6 @@ use lib.Dec.{leb, eqb}
 use borrow.Author.Tests.{leb-true}
 use Rattle.laws.specs.Series.{length-series, getD-series, map-series, every-index}
 use Rattle.laws.specs.Tests.{within, every, within-facts}
-use Rattle.words.specs.Opening.{asked}
 use Rattle.meaning.specs.declared.Connection.{Connection}
 use Rattle.meaning.specs.Numbers.{settingsAllowed, intervalAllowed, cycleAllowed, classesAllowed, largestBoundAllowed, largestBound, bound, risingAbove, classCount, factor, largestFactor, connectionAllowed, classAllowed, longestAllowed, burstAllowed, periodAllowed}
 use Rattle.meaning.specs.declared.Allowance.{Allowance}
@@ -96,13 +95,6 @@ kept-connection ws at e =
     let a = and-eq-true-iff (within 1 (word ws at) (word ws acceptedAt)) (within 1 n (word ws rowCountAt) && (u && leb (word ws (at + 3)) (word ws counterAt))) .0 t in
     let b = and-eq-true-iff (within 1 n (word ws rowCountAt)) (u && leb (word ws (at + 3)) (word ws counterAt)) .0 (a .1) in
     within-facts 1 n (word ws rowCountAt) (b .0))
-
--- the test of settings, number by number
-pub settings-parts : (D M : ℕ) (fs : List ℕ)
-    → settingsAllowed (asked D M fs) ≡ (within 1 D 256 && (within 1 M 4096 && (leb 1 (length fs) && (leb (length fs) 8 && (risingAbove 0 fs &&
-    (leb (getD fs (length fs - 1) 0) 63 && leb (getD fs (length fs - 1) 0 * D) 1024))))))
-unfolding settingsAllowed intervalAllowed cycleAllowed classesAllowed largestBoundAllowed classCount largestFactor factor largestBound bound within
-settings-parts D M fs = simp and-assoc
 
 pub interval-at : (ws : List ℕ) → 1 ≤ settingsAt ws .interval → 1 ≤ word ws intervalAt
 unfolding settingsAt

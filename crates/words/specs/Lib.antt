@@ -3,5 +3,4 @@ pub mod Places
 pub mod Contents
 pub mod Sound
 pub mod Tested
-pub mod Opening
 pub mod Changes

@@ -1,10 +1,8 @@
-// Small tests on numbers and on stretches of words, and the lengths of the queues.
-use crate::places::LENGTHS_AT;
+// Small tests on numbers and on stretches of words.
 ghost use mathlib.Core.Path.{_≡_};
-ghost use Prim.Native.Nat.{_+_, _-_, _*_, _^_, _≤_, _<_};
+ghost use Prim.Native.Nat.{_≤_, _-_, _^_, _<_};
 ghost use lib.ListN.{length};
 ghost use Rattle.laws.specs.Tests.{within};
-ghost use Rattle.words.specs.Places.{lengthsBelow, packetsAt};
 ghost use Rattle.words.specs.Sound.{zeros};
 
 // A word as an index or a count.
@@ -34,18 +32,4 @@ pub fn are_zero(ws: &[u32], from: usize, to: usize) -> bool
         i += 1;
     }
     true
-}
-
-// How many packets wait in the queues at the places below p.
-pub fn lengths_below(ws: &[u32], p: usize) -> usize
-    requires { ⌜ (p ≤ 64) × (packetsAt ≤ length (now ws)) ⌝ }
-    ensures { λ r. ⌜ (r ≡ lengthsBelow (now (ws .entry)) p) × (r ≤ p * 2 ^ 32) ⌝ }
-{
-    let mut sum = 0;
-    let mut i = 0;
-    while i < p {
-        sum += wide(ws[LENGTHS_AT + i]);
-        i += 1;
-    }
-    sum
 }

@@ -1,100 +1,31 @@
-// The packets in words: the test of one, of a queue and of the packet on the link.
-use crate::numbers::are_zero;
-use crate::numbers::is_within;
-use crate::numbers::wide;
-use crate::places::ACCEPTED_AT;
-use crate::places::COUNTER_AT;
-use crate::places::FACTORS_BEFORE;
-use crate::places::INTERVAL_AT;
-use crate::places::LEFT_AT;
-use crate::places::LINK_AT;
-use crate::places::LINK_END;
-use crate::places::LINK_UNITS_AT;
-use crate::places::ROW_COUNT_AT;
-use crate::places::ROWS_BEFORE;
+// A packet as four words.
+use meaning::Packet;
 ghost use mathlib.Core.Path.{_≡_};
-ghost use mathlib.Core.Bool.{true};
-ghost use Prim.Native.Nat.{_+_, _*_, _≤_, _<_};
+ghost use Prim.Native.Nat.{_+_, _≤_};
 ghost use lib.ListN.{length};
-ghost use Rattle.laws.specs.Series.{series};
-ghost use Rattle.meaning.specs.Box.{packetKept, rankIn};
-ghost use Rattle.words.specs.Places.{word};
-ghost use Rattle.words.specs.Contents.{contents, packetAt};
-ghost use Rattle.words.specs.Tested.{linkTested, packetFits, packetsFit};
-ghost use Rattle.words.specs.Sound.{Tables};
+ghost use Rattle.words.specs.Contents.{packetAt};
+ghost use Rattle.words.specs.Changes.{PacketPut};
 
-// The packet that starts at this word may be in the box.
-fn packet_kept(ws: &[u32], at: usize) -> bool
-    requires { ⌜ Tables (now ws) × (at + 4 ≤ length (now ws)) ⌝ }
-    ensures { λ r. ⌜ r ≡ packetKept (contents (now (ws .entry))) (packetAt (now (ws .entry)) at) ⌝ }
+// The packet that starts at word `at`.
+pub fn read_packet(ws: &[u32], at: usize) -> Packet
+    requires { ⌜ at + 4 ≤ length (now ws) ⌝ }
+    ensures { λ r. ⌜ r ≡ packetAt (now (ws .entry)) at ⌝ }
 {
-    if !is_within(1, ws[at], ws[ACCEPTED_AT]) {
-        return false;
+    Packet {
+        serial: ws[at],
+        connection: ws[at + 1],
+        units: ws[at + 2],
+        arrival: ws[at + 3],
     }
-    let connection = ws[at + 1];
-    if !is_within(1, connection, ws[ROW_COUNT_AT]) {
-        return false;
-    }
-    if !is_within(1, ws[at + 2], ws[1 + (ROWS_BEFORE + 6 * wide(connection))]) {
-        return false;
-    }
-    ws[at + 3] <= ws[COUNTER_AT]
 }
 
-// The rank that the arrival slot and the class of the packet at this word give.
-fn rank_of(ws: &[u32], at: usize) -> usize
-    requires { ⌜ Tables (now ws) × (at + 4 ≤ length (now ws)) ⌝ }
-    requires { ⌜ packetKept (contents (now ws)) (packetAt (now ws) at) ≡ true ⌝ }
-    ensures { λ r. ⌜ r ≡ rankIn (contents (now (ws .entry))) (packetAt (now (ws .entry)) at) ⌝ }
+// A packet is written at word `at`.
+pub fn write_packet(ws: &mut [u32], at: usize, p: Packet)
+    requires { ⌜ at + 4 ≤ length (now ws) ⌝ }
+    ensures { λ _. ⌜ PacketPut (now (ws .entry)) (now (ws .exit)) at p ⌝ }
 {
-    let class = wide(ws[ROWS_BEFORE + 6 * wide(ws[at + 1])]);
-    wide(ws[at + 3] / ws[INTERVAL_AT]) + wide(ws[FACTORS_BEFORE + class])
-}
-
-// The packet at this word fits in a queue of this rank, after a packet of the serial `before`.
-fn packet_fits(ws: &[u32], at: usize, rank: usize, before: u32) -> bool
-    requires { ⌜ Tables (now ws) × (at + 4 ≤ length (now ws)) ⌝ }
-    ensures { λ r. ⌜ r ≡ packetFits (contents (now (ws .entry))) rank before (packetAt (now (ws .entry)) at) ⌝ }
-{
-    if ws[at] <= before {
-        return false;
-    }
-    if !packet_kept(ws, at) {
-        return false;
-    }
-    rank_of(ws, at) == rank
-}
-
-// The `count` packets from this word on fit in a queue of this rank, one after another.
-pub(crate) fn packets_fit(ws: &[u32], start: usize, count: usize, rank: usize) -> bool
-    requires { ⌜ Tables (now ws) × (start + 4 * count ≤ length (now ws)) ⌝ }
-    ensures { λ r. ⌜ r ≡ packetsFit (contents (now (ws .entry))) rank 0 (series (packetAt (now (ws .entry))) 4 start count) ⌝ }
-{
-    let mut before = 0;
-    let mut at = start;
-    let mut i = 0;
-    while i < count {
-        if !packet_fits(ws, at, rank, before) {
-            return false;
-        }
-        before = ws[at];
-        at += 4;
-        i += 1;
-    }
-    true
-}
-
-// The link is free and its words are 0, or its packet is kept and has more units than are left.
-pub(crate) fn link_tested(ws: &[u32]) -> bool
-    requires { ⌜ Tables (now ws) ⌝ }
-    ensures { λ r. ⌜ r ≡ linkTested (now (ws .entry)) ⌝ }
-{
-    let left = ws[LEFT_AT];
-    if left == 0 {
-        return are_zero(ws, LINK_AT, LINK_END);
-    }
-    if !packet_kept(ws, LINK_AT) {
-        return false;
-    }
-    left < ws[LINK_UNITS_AT]
+    ws[at] = p.serial;
+    ws[at + 1] = p.connection;
+    ws[at + 2] = p.units;
+    ws[at + 3] = p.arrival;
 }

@@ -2,7 +2,7 @@
 // that the words are sound with 0, the value plus one, the value minus one and 4,294,967,295 there. tests/words_reference.py has the
 // state and the verdicts that `stdout` holds.
 use libc::STDOUT_FILENO;
-use words::soundness::is_sound;
+use soundness::testing::is_sound;
 ghost use Prim.Native.Nat.{_≤_, _<_};
 
 // The state up to its last packet; the words after it are 0.

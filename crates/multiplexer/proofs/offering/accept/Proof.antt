@@ -8,7 +8,8 @@ use Rattle.meaning.specs.Envelope.{conforms, charged as chargedIs}
 use Rattle.meaning.specs.Queues.{joinTail}
 use Rattle.words.specs.Places.{word}
 use Rattle.words.specs.Contents.{contents}
-use Rattle.words.specs.Changes.{Become, withQueues}
+use Rattle.words.specs.Changes.{Become}
+use Rattle.store.specs.StoreChanges.{withQueues}
 use Rattle.words.proofs.Counts.{sound-fitting}
 use Rattle.multiplexer.specs.Promised.{RowReady}
 use Rattle.multiplexer.proofs.Offers.{packet-is, row-ready, class-within, accepted-most, envelope-ready, conforms-same, charged-same, number-within, join-ready, count-ready, accepted-becomes}

@@ -1,0 +1,2 @@
+-- What the test settles.
+pub mod Settles

@@ -1,0 +1,2 @@
+-- What the calls on the store promise.
+pub mod StoreChanges

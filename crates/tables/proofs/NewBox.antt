@@ -1,0 +1,137 @@
+-- The words of a new box: the settings, then zeros. A new box is sound.
+use Prim.Native.Nat.{ℕ, zero, suc, _+_, _*_, _-_, _≤_, _<_}
+use mathlib.Core.Path.{_≡_, refl, sym, ap, _∙_}
+use mathlib.Core.Bool.{true}
+use mathlib.Core.List.{List, [], _∷_, _++_, map, flatten, append-assoc}
+use native.Mathlib.Omega.{arith}
+use lib.ListN.{length, getD, take, drop, set, replicate, length-append, length-replicate, replicate-append-replicate}
+use lib.Seq.{drop-cons, set-at, drop-drop, drop-append-le}
+use Rattle.laws.specs.Series.{series, series-same, append-same}
+use Rattle.meaning.specs.Numbers.{Settings, largestFactor, risingAbove, settingsAllowed}
+use Rattle.meaning.specs.Queues.{emptyQueues}
+use Rattle.laws.specs.Tests.{every}
+use Rattle.meaning.specs.declared.Packet.{Packet}
+use Rattle.meaning.specs.Box.{Box, connections, waiting, packets, onLink, packetKept, inTheirQueues, serialsRise, linkKept, allowancesKept, sound}
+use Rattle.meaning.proofs.Facts.{sound-test}
+use Rattle.meaning.specs.Calls.{newBox}
+use Rattle.words.specs.Places.{tagOf, intervalAt, cycleAt, classesAt, factorsAt, rowCountAt, packetsAt}
+use Rattle.words.specs.Contents.{padded, packetWords, linkWords, turnsOf, byPlace, image, put}
+use Rattle.tables.specs.Opening.{asked, cleared}
+
+pub cleared-next : (ws : List ℕ) (i : ℕ) → i < length ws → set (cleared i ws) i 0 ≡ cleared (suc i) ws
+unfolding cleared
+cleared-next ws i h =
+    (let z : List ℕ = replicate i 0 in
+    ap (λ l. set (z ++ l) i 0) (drop-cons ws i 0 h) ∙ set-at z (getD ws i 0) (drop (suc i) ws) 0 i (length-replicate {A = ℕ} i 0) ∙
+    sym (append-assoc z (0 ∷ []) (drop (suc i) ws)) ∙
+    ap (λ l. l ++ drop (suc i) ws) (replicate-append-replicate {A = ℕ} i 1 0 ∙ ap (λ n. replicate n 0) (one-more i)))
+  where
+    one-more : (i : ℕ) → i + 1 ≡ suc i
+    one-more i = omega arith
+
+drop-zeros : (k n : ℕ) → k ≤ n → drop k (replicate {A = ℕ} n 0) ≡ replicate (n - k) 0
+drop-zeros zero n h = let e : n ≡ n - 0 = omega arith in ap (λ m. replicate m 0) e
+drop-zeros (suc k) zero h = absurd (omega arith)
+drop-zeros (suc k) (suc n) h = let e : n - k ≡ suc n - suc k = omega arith in drop-zeros k n (omega arith) ∙ ap (λ m. replicate m 0) e
+
+getD-empty : (n k : ℕ) → getD (replicate {A = List Packet} n []) k [] ≡ []
+getD-empty zero k = refl
+getD-empty (suc n) zero = refl
+getD-empty (suc n) (suc k) = getD-empty n k
+
+places-new : (opening : Settings) → byPlace (newBox opening) ≡ series (λ _. []) 1 0 64
+unfolding byPlace newBox emptyQueues
+places-new opening =
+    (let n = suc (largestFactor opening) in
+    let q : List (List Packet) = replicate n [] in
+    series-same (λ p. getD q (tagOf (turnsOf (newBox opening)) p) []) (λ _. []) 1 0 0 64
+    (λ i h. getD-empty n (tagOf (turnsOf (newBox opening)) (0 + 1 * i))))
+
+no-lengths : map (length {A = Packet}) (series (λ _. []) 1 0 64) ≡ replicate 64 0
+unfolding series
+no-lengths = refl
+
+no-words : flatten (map packetWords (flatten (series (λ _. []) 1 0 64))) ≡ []
+unfolding series flatten
+no-words = refl
+
+tail-zeros : (k : ℕ) → k ≤ 8
+    → replicate (8 - k) 0 ++ ((0 ∷ []) ++ (replicate 192 0 ++ ((0 ∷ 0 ∷ []) ++ ((0 ∷ 0 ∷ 0 ∷ 0 ∷ 0 ∷ []) ++ (replicate 64 0 ++ []))))) ≡ replicate {A = ℕ} ((packetsAt - factorsAt) - k) 0
+tail-zeros k h =
+    (let e : 8 - k + (packetsAt - rowCountAt) ≡ (packetsAt - factorsAt) - k = omega arith in
+    replicate-append-replicate {A = ℕ} (8 - k) (packetsAt - rowCountAt) 0 ∙ ap (λ n. replicate n 0) e)
+
+-- the words of a new box: its settings, then zeros
+image-new : (D M : ℕ) (fs : List ℕ) → length fs ≤ 8
+    → image (newBox (asked D M fs)) ≡ (D ∷ M ∷ length fs ∷ []) ++ (fs ++ replicate ((packetsAt - factorsAt) - length fs) 0)
+unfolding image newBox padded linkWords flatten
+image-new D M fs h =
+    (let places = places-new (asked D M fs) in
+    let a = ap (map length) places ∙ no-lengths in
+    let b = ap (λ qs. flatten (map packetWords (flatten qs))) places ∙ no-words in
+    let rest : List ℕ → List ℕ → List ℕ = λ l w. (0 ∷ []) ++ (replicate 192 0 ++ ((0 ∷ 0 ∷ []) ++ ((0 ∷ 0 ∷ 0 ∷ 0 ∷ 0 ∷ []) ++ (l ++ w)))) in
+    ap (λ t. D ∷ M ∷ length fs ∷ t)
+    (append-assoc fs (replicate (8 - length fs) 0) (rest (map length (byPlace (newBox (asked D M fs)))) (flatten (map packetWords (flatten (byPlace (newBox (asked D M fs))))))) ∙
+    ap (λ t. fs ++ t)
+    (ap (λ l. replicate (8 - length fs) 0 ++ rest l (flatten (map packetWords (flatten (byPlace (newBox (asked D M fs))))))) a ∙
+    ap (λ w. replicate (8 - length fs) 0 ++ rest (replicate 64 0) w) b ∙ tail-zeros (length fs) h)))
+
+-- what opening writes is a new box
+pub opening-writes : (D M : ℕ) (fs ws cleared-words : List ℕ) → length fs ≤ 8 → cleared-words ≡ cleared packetsAt ws
+    → take factorsAt (set (set (set cleared-words intervalAt D) cycleAt M) classesAt (length fs)) ++ fs ++ drop (factorsAt + length fs) (set (set (set cleared-words intervalAt D) cycleAt M) classesAt (length fs))
+    ≡ put (newBox (asked D M fs)) ws
+unfolding put cleared
+opening-writes D M fs ws l h e =
+    (let k = length fs in
+    let R = drop packetsAt ws in
+    let z : List ℕ = replicate (packetsAt - factorsAt) 0 in
+    let X : List ℕ = D ∷ M ∷ k ∷ (z ++ R) in
+    let x : set (set (set l intervalAt D) cycleAt M) classesAt k ≡ X = ap (λ t. set (set (set t intervalAt D) cycleAt M) classesAt k) e in
+    let d : drop (factorsAt + k) X ≡ replicate ((packetsAt - factorsAt) - k) 0 ++ R =
+    sym (drop-drop k factorsAt X) ∙ drop-append-le k z R (rw (length-replicate {A = ℕ} (packetsAt - factorsAt) 0) (omega arith)) ∙ ap (λ t. t ++ R) (drop-zeros k (packetsAt - factorsAt) (omega arith)) in
+    let i = image-new D M fs h in
+    let n : length (image (newBox (asked D M fs))) ≡ packetsAt = ap length i ∙ size D M fs h in
+    ap (λ t. take factorsAt t ++ fs ++ drop (factorsAt + k) t) x ∙ ap (λ t. (D ∷ M ∷ k ∷ []) ++ fs ++ t) d ∙
+    append-assoc (D ∷ M ∷ k ∷ []) fs (replicate ((packetsAt - factorsAt) - k) 0 ++ R) ∙
+    ap (λ t. (D ∷ M ∷ k ∷ []) ++ t) (sym (append-assoc fs (replicate ((packetsAt - factorsAt) - k) 0) R)) ∙
+    append-same (sym i) (ap (λ m. drop m ws) (sym n)))
+  where
+    size : (D M : ℕ) (fs : List ℕ) → length fs ≤ 8 → length ((D ∷ M ∷ length fs ∷ []) ++ (fs ++ replicate ((packetsAt - factorsAt) - length fs) 0)) ≡ packetsAt
+    size D M fs h = rw (length-append fs (replicate ((packetsAt - factorsAt) - length fs) 0), length-replicate {A = ℕ} ((packetsAt - factorsAt) - length fs) 0) (omega arith)
+
+no-packets : (n : ℕ) → flatten (replicate {A = List Packet} n []) ≡ []
+unfolding flatten
+no-packets zero = refl
+no-packets (suc n) = no-packets n
+
+in-no-queue : (box : Box) (tag n : ℕ) → inTheirQueues box tag (replicate n []) ≡ true
+unfolding inTheirQueues every
+in-no-queue box tag zero = refl
+in-no-queue box tag (suc n) = in-no-queue box (suc tag) n
+
+none-rise : (n : ℕ) → every (λ q. risingAbove 0 (map (λ p. p .serial) q)) (replicate {A = List Packet} n []) ≡ true
+unfolding every risingAbove
+none-rise zero = refl
+none-rise (suc n) = none-rise n
+
+-- "A new box is sound"
+pub new-box-sound : (opening : Settings) → settingsAllowed opening ≡ true → sound (newBox opening) ≡ true
+unfolding newBox emptyQueues connections waiting packets onLink serialsRise linkKept allowancesKept every
+new-box-sound opening e =
+    (let n = suc (largestFactor opening) in
+    let box = newBox opening in
+    let z : length (waiting box) ≡ 0 = ap length (no-packets n) in
+    sound-test box (record {
+      settings-allowed = e;
+      connections-most = omega arith;
+      connections-allowed = refl;
+      waiting-most = omega arith;
+      counter-most = omega arith;
+      queue-count = length-replicate {A = List Packet} n [];
+      in-their-queues = in-no-queue box 0 n;
+      serials-rise = none-rise n;
+      packets-kept = ap (λ l. every (packetKept box) (l ++ [])) (no-packets n);
+      link-kept = refl;
+      count-most = omega arith;
+      allowances-kept = refl;
+    }))

@@ -1,0 +1,249 @@
+-- What the writers of the small parts write stands for the changed contents.
+use Prim.Native.Nat.{ℕ, suc, _+_, _*_, _-_, _/_, _%_, _≤_, _<_}
+use mathlib.Core.Path.{_≡_, refl, sym, ap, _∙_}
+use mathlib.Core.Bool.{Bool, true, false, cond, and-eq-true-iff, true≢false}
+use mathlib.Core.List.{List, [], _∷_, _++_}
+use mathlib.Core.Logic.{⊎-elim}
+use native.Mathlib.Omega.{arith}
+use native.Mathlib.Decide.{decLe}
+use native.Mathlib.Nat.{div-add-mod', mod-lt}
+use lib.Arith.{digits-div, digits-mod}
+use lib.ListN.{length, set, length-set}
+use lib.Dec.{ltb, eqb}
+use borrow.Author.Tests.{eq-eqb, eqb-true, lt-ltb}
+use Rattle.laws.specs.Series.{series, series-same, series-last, every-all}
+use Rattle.laws.specs.Tests.{bool-cases}
+use Rattle.meaning.specs.Numbers.{largestFactor}
+use Rattle.meaning.specs.Queues.{turnAt, turned, tagZeroWaits}
+use Rattle.meaning.specs.declared.Packet.{Packet}
+use Rattle.meaning.specs.Box.{Box, waiting}
+use Rattle.words.specs.Places.{word, placeOf, intervalAt, counterAt, acceptedAt, leftAt, linkAt, lengthsAt}
+use Rattle.words.specs.Contents.{contents, settingsAt, linkOf, turnsAt, queueAt, queuesAt}
+use Rattle.words.specs.Sound.{linkClear, emptyFrom, untaggedEmpty, Fitting}
+use Rattle.words.specs.Changes.{Become, PacketPut}
+use Rattle.tables.specs.TableChanges.{withAccepted, withLink, raised}
+use Rattle.words.proofs.PutContents.{untagged-zero, queue-untagged}
+use Rattle.words.proofs.ContentsPut.{length-queue}
+use Rattle.words.proofs.Rotation.{place-turned, place-whole}
+use Rattle.words.proofs.Storing.{word-other, word-same}
+use Rattle.words.proofs.Same.{settings-same, standings-same, packet-same, turns-same, fitting-kept, link-clear-same, lengths-same, queue-same, queues-same, untagged-same}
+
+-- the count of accepted packets
+pub accepted-become : (ws : List ℕ) (v : ℕ) → Fitting ws → Become ws (set ws acceptedAt v) (withAccepted (contents ws) v)
+unfolding contents withAccepted
+accepted-become ws v k =
+    (let after = set ws acceptedAt v in
+    let e : (i : ℕ) → (i ≡ acceptedAt → ⊥) → word after i ≡ word ws i = λ i h. word-other ws acceptedAt v i h in
+    let s = settings-same ws after (k .classes) (λ i h. e i (λ q. omega arith)) in
+    let t = turns-same ws after (e intervalAt (λ q. omega arith)) (e counterAt (λ q. omega arith)) in
+    let far : (i : ℕ) → lengthsAt ≤ i → word after i ≡ word ws i = λ i h. e i (λ q. omega arith) in
+    let l = lengths-same ws after far 64 in
+    record {
+      fitting = fitting-kept ws after k (length-set ws acceptedAt v) (λ i h. e i (λ q. omega arith))
+          (link-clear-same ws after (λ i a b. e i (λ q. omega arith)) ∙ k .link-clear) (untagged-same ws after far s t ∙ k .untagged) (omega (arith, k .total));
+      stands-for =
+          rw (
+            s,
+            standings-same ws after (k .rows) (λ i a b. e i (λ q. omega arith)),
+            e counterAt (λ q. omega arith),
+            word-same ws acceptedAt v acceptedAt (omega (arith, k .enough)) refl,
+            e leftAt (λ q. omega arith),
+            packet-same ws after linkAt linkAt (λ j g. e (linkAt + j) (λ q. omega arith)),
+            queues-same ws after far s t,
+          );
+      same-length = length-set ws acceptedAt v;
+      beyond = λ i h. far i (omega arith);
+    })
+
+-- the link
+pub link-become : (ws after : List ℕ) (left : ℕ) (p : Packet) → Fitting ws → PacketPut (set ws leftAt left) after linkAt p → linkClear after ≡ true
+    → Become ws after (withLink (contents ws) (linkOf left p))
+unfolding contents withLink
+link-become ws after left p k w c =
+    (let mid = set ws leftAt left in
+    let far : (i : ℕ) → lengthsAt ≤ i → word after i ≡ word ws i = λ i h. w .above i (omega arith) ∙ word-other ws leftAt left i (λ q. omega arith) in
+    let near : (i : ℕ) → i < leftAt → word after i ≡ word ws i = λ i h. w .below i (omega arith) ∙ word-other ws leftAt left i (λ q. omega arith) in
+    let s = settings-same ws after (k .classes) (λ i h. near i (omega arith)) in
+    let t = turns-same ws after (near intervalAt (omega arith)) (near counterAt (omega arith)) in
+    let l = lengths-same ws after far 64 in
+    let n : length after ≡ length ws = w .same-length ∙ length-set ws leftAt left in
+    record {
+      fitting = fitting-kept ws after k n (λ i h. near i (omega arith)) c (untagged-same ws after far s t ∙ k .untagged) (omega (arith, k .total));
+      stands-for =
+          rw (
+            s,
+            standings-same ws after (k .rows) (λ i a b. near i (omega arith)),
+            near counterAt (omega arith),
+            near acceptedAt (omega arith),
+            w .below leftAt (omega arith) ∙ word-same ws leftAt left leftAt (omega (arith, k .enough)) refl,
+            w .packet,
+            queues-same ws after far s t,
+          );
+      same-length = n;
+      beyond = λ i h. far i (omega arith);
+    })
+
+-- a slot later floor(now/D) is one more exactly at a turn
+next-turn : (n D : ℕ) → 1 ≤ D → suc n % D ≡ 0 → suc n / D ≡ suc (n / D)
+next-turn n D h e =
+    (let q = n / D in
+    let r = n % D in
+    let a : q * D + r ≡ n = div-add-mod' n D in
+    let b : r < D = mod-lt n h in
+    elim (decLe D (suc r)) [
+      | yes k ↦ (let c : suc n ≡ suc q * D + 0 = omega arith in ap (λ m. m / D) c ∙ digits-div (suc q) {m = D} {r = 0} h)
+      | no k ↦
+          (let c : suc n ≡ q * D + suc r = omega arith in
+          let d : suc n % D ≡ suc r = ap (λ m. m % D) c ∙ digits-mod q {m = D} {r = suc r} (omega arith) in
+          absurd (omega arith))
+    ])
+
+no-turn : (n D : ℕ) → 1 ≤ D → (suc n % D ≡ 0 → ⊥) → suc n / D ≡ n / D
+no-turn n D h e =
+    (let q = n / D in
+    let r = n % D in
+    let a : q * D + r ≡ n = div-add-mod' n D in
+    let b : r < D = mod-lt n h in
+    elim (decLe D (suc r)) [
+      | yes k ↦ (let c : suc n ≡ suc q * D + 0 = omega arith in absurd (e (ap (λ m. m % D) c ∙ digits-mod (suc q) {m = D} {r = 0} h)))
+      | no k ↦ (let c : suc n ≡ q * D + suc r = omega arith in ap (λ m. m / D) c ∙ digits-div q {m = D} {r = suc r} (omega arith))
+    ])
+
+first-last : {A : Type 0} (f : ℕ → List A) (r : ℕ) → turned (series f 1 0 (suc r)) ≡ series f 1 1 r ++ (f 0 ∷ [])
+unfolding turned series
+first-last f r = refl
+
+-- "every tag falls by one, the old 0 becomes rP"
+turned-series : {A : Type 0} (f : ℕ → List A) (r : ℕ) → f (suc r) ≡ f 0 → series (λ k. f (suc k)) 1 0 (suc r) ≡ turned (series f 1 0 (suc r))
+turned-series {A} f r e =
+    (let g : ℕ → List A = λ k. f (suc k) in
+    let z : 0 + 1 * r ≡ r = omega arith in
+    series-last g 1 0 r ∙ ap (λ k. series g 1 0 r ++ (g k ∷ [])) z ∙ ap (λ q. series g 1 0 r ++ (q ∷ [])) e ∙
+    ap (λ l. l ++ (f 0 ∷ [])) (series-same g f 1 0 1 r (λ i h. (let y : suc (0 + 1 * i) ≡ 1 + 1 * i = omega arith in ap f y))) ∙ sym (first-last f r))
+
+first-empty : (q : List Packet) (qs : List (List Packet)) → tagZeroWaits (q ∷ qs) ≡ false → q ≡ []
+unfolding tagZeroWaits
+first-empty [] qs e = refl
+first-empty (p ∷ q) qs e = absurd (true≢false e)
+
+zero-empty : (ws : List ℕ) → tagZeroWaits (contents ws .queues) ≡ false → queueAt ws (placeOf (turnsAt ws) 0) ≡ []
+unfolding contents queuesAt series
+zero-empty ws e =
+    first-empty (queueAt ws (placeOf (turnsAt ws) 0)) (series (λ k. queueAt ws (placeOf (turnsAt ws) k)) 1 1 (largestFactor (settingsAt ws))) e
+
+zero-length : (ws : List ℕ) → tagZeroWaits (contents ws .queues) ≡ false → word ws (lengthsAt + placeOf (turnsAt ws) 0) ≡ 0
+zero-length ws e = sym (length-queue ws (placeOf (turnsAt ws) 0)) ∙ ap length (zero-empty ws e)
+
+-- past the last tag nothing waits: the places come round to tag 0
+past-last : (ws : List ℕ) → Fitting ws → tagZeroWaits (contents ws .queues) ≡ false
+    → (k : ℕ) → largestFactor (settingsAt ws) < k → k ≤ 64 → word ws (lengthsAt + placeOf (turnsAt ws) k) ≡ 0
+past-last ws f z k h l =
+    elim (decLe 64 k) [
+      | yes a ↦ (let e : k ≡ 64 = omega arith in ap (λ n. word ws (lengthsAt + placeOf (turnsAt ws) n)) e ∙ ap (λ p. word ws (lengthsAt + p)) (place-whole (turnsAt ws)) ∙ zero-length ws z)
+      | no a ↦ untagged-zero ws (f .untagged) k h (omega arith)
+    ]
+
+-- the counter
+module _ (ws : List ℕ) (v : ℕ) (k : Fitting ws) where
+  counted : (i : ℕ) → (i ≡ counterAt → ⊥) → word (set ws counterAt v) i ≡ word ws i
+  counted i h = word-other ws counterAt v i h
+
+  pub counted-far : (i : ℕ) → lengthsAt ≤ i → word (set ws counterAt v) i ≡ word ws i
+  counted-far i h = counted i (λ q. omega arith)
+
+  pub counted-settings : settingsAt (set ws counterAt v) ≡ settingsAt ws
+  counted-settings = settings-same ws (set ws counterAt v) (k .classes) (λ i h. counted i (λ q. omega arith))
+
+  pub counter-become : (qs : List (List Packet)) → untaggedEmpty (set ws counterAt v) ≡ true → queuesAt (set ws counterAt v) ≡ qs
+      → Become ws (set ws counterAt v) (record { settings = contents ws .settings; standing = contents ws .standing; counter = v; accepted = contents ws .accepted; link = contents ws .link; queues = qs })
+  unfolding contents
+  counter-become qs u q =
+      (let after = set ws counterAt v in
+      let l = lengths-same ws after counted-far 64 in
+      record {
+        fitting = fitting-kept ws after k (length-set ws counterAt v) (λ i h. counted i (λ q. omega arith))
+            (link-clear-same ws after (λ i a b. counted i (λ q. omega arith)) ∙ k .link-clear) u (omega (arith, k .total));
+        stands-for =
+            rw (
+              counted-settings,
+              standings-same ws after (k .rows) (λ i a b. counted i (λ q. omega arith)),
+              word-same ws counterAt v counterAt (omega (arith, k .enough)) refl,
+              counted acceptedAt (λ q. omega arith),
+              counted leftAt (λ q. omega arith),
+              packet-same ws after linkAt linkAt (λ j g. counted (linkAt + j) (λ q. omega arith)),
+              q,
+            );
+        same-length = length-set ws counterAt v;
+        beyond = λ i h. counted-far i (omega arith);
+      })
+
+  turns-after : turnsAt (set ws counterAt v) ≡ v / word ws intervalAt
+  unfolding turnsAt
+  turns-after = rw (word-same ws counterAt v counterAt (omega (arith, k .enough)) refl, counted intervalAt (λ q. omega arith))
+
+  turned-untagged : turnsAt (set ws counterAt v) ≡ suc (turnsAt ws) → tagZeroWaits (contents ws .queues) ≡ false → untaggedEmpty (set ws counterAt v) ≡ true
+  unfolding untaggedEmpty emptyFrom
+  turned-untagged t z =
+      (let r = largestFactor (settingsAt ws) in
+      rw (counted-settings, t)
+      (every-all (λ w. eqb w 0) (λ j. word (set ws counterAt v) (lengthsAt + placeOf (suc (turnsAt ws)) j)) 1 (suc r) (63 - r) (λ i h.
+      (let j = suc r + 1 * i in
+      eq-eqb _ 0 (counted-far (lengthsAt + placeOf (suc (turnsAt ws)) j) (omega arith) ∙ ap (λ p. word ws (lengthsAt + p)) (place-turned (turnsAt ws) j) ∙
+      past-last ws k z (suc j) (omega arith) (omega arith))))))
+
+  turned-queues : turnsAt (set ws counterAt v) ≡ suc (turnsAt ws) → tagZeroWaits (contents ws .queues) ≡ false → queuesAt (set ws counterAt v) ≡ turned (contents ws .queues)
+  unfolding queuesAt contents
+  turned-queues t z =
+      (let r = largestFactor (settingsAt ws) in
+      let f : ℕ → List Packet = λ j. queueAt ws (placeOf (turnsAt ws) j) in
+      rw (counted-settings, t)
+      (series-same (λ j. queueAt (set ws counterAt v) (placeOf (suc (turnsAt ws)) j)) (λ j. f (suc j)) 1 0 0 (suc r) (λ i h.
+      queue-same ws (set ws counterAt v) counted-far (placeOf (suc (turnsAt ws)) (0 + 1 * i)) ∙ ap (queueAt ws) (place-turned (turnsAt ws) (0 + 1 * i))) ∙
+      turned-series f r
+      (queue-untagged ws (placeOf (turnsAt ws) (suc r)) (past-last ws k z (suc r) (omega arith) (omega (arith, k .largest))) ∙ sym (zero-empty ws z))))
+
+turn-slot : (D n : ℕ) → turnAt D (suc n) ≡ true → suc n % D ≡ 0
+unfolding turnAt
+turn-slot D n e = eqb-true (suc n % D) 0 (and-eq-true-iff (ltb 0 (suc n)) (eqb (suc n % D) 0) .0 e .1)
+
+no-turn-slot : (D n : ℕ) → turnAt D (suc n) ≡ false → suc n % D ≡ 0 → ⊥
+unfolding turnAt
+no-turn-slot D n e z =
+    true≢false (sym (and-eq-true-iff (ltb 0 (suc n)) (eqb (suc n % D) 0) .1 (lt-ltb 0 (suc n) (omega arith), eq-eqb (suc n % D) 0 z)) ∙ e)
+
+turns-is : (ws : List ℕ) → suc (word ws counterAt / word ws intervalAt) ≡ suc (turnsAt ws)
+unfolding turnsAt
+turns-is ws = refl
+
+turns-same-is : (ws : List ℕ) → word ws counterAt / word ws intervalAt ≡ turnsAt ws
+unfolding turnsAt
+turns-same-is ws = refl
+
+queues-is : (ws : List ℕ) → queuesAt ws ≡ contents ws .queues
+unfolding contents
+queues-is ws = refl
+
+-- the box after a slot, where it is known whether a turn is due
+turn-box : (ws : List ℕ) (v : ℕ) (due : Bool) → Fitting ws → v ≡ suc (word ws counterAt) → turnAt (word ws intervalAt) (suc (word ws counterAt)) ≡ due
+    → Become ws (set ws counterAt v)
+    (record { settings = contents ws .settings; standing = contents ws .standing; counter = v; accepted = contents ws .accepted; link = contents ws .link; queues = cond due (turned (contents ws .queues)) (contents ws .queues) })
+    → Become ws (set ws counterAt v) (raised (contents ws))
+unfolding raised contents settingsAt
+turn-box ws v due k e q b = rw (q, ← e) b
+
+pub raise-become : (ws : List ℕ) (v : ℕ) → Fitting ws → v ≡ suc (word ws counterAt)
+    → (turnAt (word ws intervalAt) (suc (word ws counterAt)) ≡ true → tagZeroWaits (contents ws .queues) ≡ false)
+    → Become ws (set ws counterAt v) (raised (contents ws))
+raise-become ws v k e z =
+    (let n = word ws counterAt in
+    let D = word ws intervalAt in
+    ⊎-elim
+    (λ (q : turnAt D (suc n) ≡ true).
+    (let t = turns-after ws v k ∙ ap (λ m. m / D) e ∙ next-turn n D (k .interval) (turn-slot D n q) ∙ turns-is ws in
+    turn-box ws v true k e q (counter-become ws v k (turned (contents ws .queues)) (turned-untagged ws v k t (z q)) (turned-queues ws v k t (z q)))))
+    (λ (q : turnAt D (suc n) ≡ false).
+    (let t = turns-after ws v k ∙ ap (λ m. m / D) e ∙ no-turn n D (k .interval) (no-turn-slot D n q) ∙ turns-same-is ws in
+    turn-box ws v false k e q
+    (counter-become ws v k (contents ws .queues) (untagged-same ws (set ws counterAt v) (counted-far ws v k) (counted-settings ws v k) t ∙ k .untagged)
+    (queues-same ws (set ws counterAt v) (counted-far ws v k) (counted-settings ws v k) t ∙ queues-is ws))))
+    (bool-cases (turnAt D (suc n))))

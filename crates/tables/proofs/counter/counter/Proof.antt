@@ -1,0 +1,16 @@
+-- `tables::counter::counter` meets its contract.
+use mathlib.Core.Path.{refl}
+use Rattle.words.specs.Contents.{contents}
+use borrow.Author.Needs.{needs}
+use Rattle.tables.proofs.counter.counter.Statement.{statement}
+use Rattle.tables.proofs.counter.counter.Tie as tie
+
+shared-slice-read-result : tie.Need-shared-slice-read-result
+shared-slice-read-result c = search needs
+
+returns : tie.Need-returns
+unfolding contents
+returns c = refl
+
+pub counter-spec : {M : Type 1} → statement M
+counter-spec = tie.close (tie.spec shared-slice-read-result returns)
