@@ -1,3 +1,4 @@
 pub mod Rows
+pub mod Rating
 pub mod Searching
 pub mod Tables

@@ -17,8 +17,8 @@ use Rattle.meaning.specs.Admission.{term, sumAt, inTheWay, eleven, twelveRange,
 use Rattle.meaning.specs.declared.Standing.{Standing}
 use Rattle.meaning.proofs.Facts.{connection-facts}
 use Rattle.words.specs.Places.{word, cycleAt, rowCountAt, rowsAt}
-use Rattle.words.specs.Contents.{standingAt, standings, settingsAt}
-use Rattle.admission.specs.Asking.{Ready, Allowed, askedAt, withAsked, wayTerm}
+use Rattle.words.specs.Contents.{askedAt, standingAt, standings, settingsAt}
+use Rattle.admission.specs.Asking.{Ready, Allowed, withAsked, wayTerm}
 use Rattle.admission.proofs.Tables.{cycle-is, cycle-most}
 
 -- What the connections in the first n rows asked for.

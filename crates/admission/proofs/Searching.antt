@@ -3,6 +3,7 @@ use Prim.Native.Nat.{ℕ, suc, _+_, _*_, _≤_, _<_, max}
 use mathlib.Core.Path.{_≡_, refl, sym, ap, _∙_}
 use mathlib.Core.Bool.{Bool, true, false, _&&_}
 use mathlib.Core.List.{List}
+use lib.ListN.{length}
 use native.Mathlib.Numerals.{add-one}
 use native.Mathlib.Nat.{le-max-left, le-max-right, eq-or-lt-of-le}
 use mathlib.Core.Logic.{⊎-elim}
@@ -13,11 +14,13 @@ use Rattle.laws.specs.Found.{found-fails, found-holds}
 use Rattle.laws.specs.Sums.{sumOf, largestOf}
 use Rattle.meaning.specs.Numbers.{classCount, bound, largestBound}
 use Rattle.meaning.specs.Admission.{term, twelveRange, conditionAt, finiteSearch}
-use Rattle.words.specs.Places.{word, intervalAt, cycleAt, classesAt, rowCountAt}
-use Rattle.words.specs.Contents.{settingsAt}
+use Rattle.words.specs.Places.{word, intervalAt, rowCountAt}
+use Rattle.words.specs.Contents.{askedAt, contents, settingsAt}
 use Rattle.meaning.specs.declared.Connection.{Connection}
-use Rattle.admission.specs.Asking.{Ready, Allowed, askedAt, withAsked, wayTerm}
-use Rattle.admission.proofs.Tables.{class-count, interval-is, cycle-is, cycle-most, interval-most}
+use Rattle.admission.specs.Asking.{Ready, Allowed, withAsked, wayTerm}
+use Rattle.words.proofs.PutContents.{row-count}
+use Rattle.words.proofs.Readings.{interval-word, cycle-word}
+use Rattle.admission.proofs.Tables.{interval-is, cycle-most, interval-most}
 use Rattle.admission.proofs.Rows.{rowsTo, sum-none, sum-next, largest-none, largest-next, holds-at, fails-at, fails-early}
 
 -- What is known once the search begins: the tables, and the numbers read from them.
@@ -32,19 +35,25 @@ pub record Known (ws : List ℕ) (c : Connection) (n interval first last end : �
   pub end-is : end ≡ largestBound (settingsAt ws) + settingsAt ws .cycle
   pub end-most : end ≤ 5120
 
-pub known : (ws : List ℕ) (c : Connection) (first last : ℕ) → Ready ws → Allowed ws c → first ≡ bound (settingsAt ws) 1 → last ≡ bound (settingsAt ws) (word ws classesAt)
-    → last ≤ 1024 → Known ws c (word ws rowCountAt) (word ws intervalAt) first last (last + word ws cycleAt)
-unfolding largestBound
-known ws c first last r a f l m =
-    let e : last ≡ largestBound (settingsAt ws) = l ∙ ap (bound (settingsAt ws)) (sym (class-count ws)) in
-    let y = cycle-is ws in
+-- The numbers that the search reads first are known from what the readers of the tables promise.
+pub known : (ws : List ℕ) (c : Connection) (n turn first classes last slots : ℕ) → Ready ws → Allowed ws c → n ≡ length (contents ws .standing)
+    → turn ≡ contents ws .settings .interval → first ≡ bound (settingsAt ws) 1 → classes ≡ classCount (contents ws .settings)
+    → (last ≡ bound (settingsAt ws) classes) × (last ≤ 1024) → slots ≡ contents ws .settings .cycle
+    → Known ws c n turn first last (last + slots)
+unfolding largestBound contents
+known ws c n turn first classes last slots r a en et f ec l es =
+    let e : last ≡ largestBound (settingsAt ws) = l .0 ∙ ap (bound (settingsAt ws)) ec in
+    let m = l .1 in
     let z = cycle-most ws r in
+    let y = cycle-word ws in
+    let i = interval-most ws r in
+    let x = interval-word ws in
     record {
       ready = r;
       allowed = a;
-      rows-are = refl;
-      interval-is = refl;
-      interval-most = interval-most ws r;
+      rows-are = en ∙ row-count ws;
+      interval-is = et ∙ interval-word ws;
+      interval-most = omega arith;
       first-is = f;
       last-is = e;
       end-is = omega arith;

@@ -1,6 +1,6 @@
 -- What allowed tables say of the numbers that the search computes with.
 use Prim.Native.Nat.{ℕ, suc, _+_, _*_, _-_, _/_, _≤_, _<_}
-use mathlib.Core.Path.{_≡_, refl, sym, ap, _∙_}
+use mathlib.Core.Path.{_≡_, refl, ap₂, _∙_}
 use mathlib.Core.Bool.{Bool, true, false, cond}
 use mathlib.Core.List.{List}
 use native.Mathlib.Nat.{mul-le-mul-right, mul-le-mul, div-le-self}
@@ -15,8 +15,9 @@ use Rattle.meaning.specs.Admission.{term, twelveRange}
 use Rattle.meaning.proofs.Facts.{SettingsFacts, ConnectionFacts, settings-facts, connection-facts}
 use Rattle.meaning.proofs.KeptByOffer.{factor-within}
 use Rattle.words.specs.Places.{word, intervalAt, cycleAt, classesAt, factorsAt, rowCountAt}
-use Rattle.words.specs.Contents.{settingsAt}
-use Rattle.admission.specs.Asking.{Ready, Allowed, Small, askedAt, wayTerm}
+use Rattle.words.specs.Contents.{askedAt, contents, settingsAt}
+use Rattle.words.proofs.Readings.{interval-word}
+use Rattle.admission.specs.Asking.{Ready, Allowed, Small, wayTerm}
 
 pub class-count : (ws : List ℕ) → classCount (settingsAt ws) ≡ word ws classesAt
 unfolding classCount settingsAt
@@ -29,17 +30,6 @@ interval-is ws = refl
 pub cycle-is : (ws : List ℕ) → settingsAt ws .cycle ≡ word ws cycleAt
 unfolding settingsAt
 cycle-is ws = refl
-
--- the factor of class k lies at word 2 + k
-pub factor-is : (ws : List ℕ) (k : ℕ) → 1 ≤ k → k ≤ word ws classesAt → factor (settingsAt ws) k ≡ word ws (factorsAt - 1 + k)
-unfolding factor settingsAt
-factor-is ws k h l =
-    let e : 3 + 1 * (k - 1) ≡ 2 + k = omega arith in
-    getD-series (λ i. word ws i) 1 factorsAt (word ws classesAt) (k - 1) 0 (omega arith) ∙ ap (λ i. word ws i) e
-
-pub bound-is : (ws : List ℕ) (k : ℕ) → 1 ≤ k → k ≤ word ws classesAt → bound (settingsAt ws) k ≡ word ws (factorsAt - 1 + k) * word ws intervalAt
-unfolding bound settingsAt
-bound-is ws k h l = ap (λ f. f * word ws intervalAt) (factor-is ws k h l)
 
 pub facts : (ws : List ℕ) → Ready ws → SettingsFacts (settingsAt ws)
 facts ws r = settings-facts (settingsAt ws) (r .settings)
@@ -81,13 +71,22 @@ asked-class ws c a =
 pub product-most : (s n : ℕ) → s ≤ 64 → n ≤ 6064 → s * n ≤ 400000
 product-most s n h k = let m = mul-le-mul h k in omega arith
 
--- The bound of a class, as the code computes it.
-pub bound-code : (ws : List ℕ) (k : ℕ) → Ready ws → 1 ≤ k → k ≤ word ws classesAt
-    → (word ws (factorsAt - 1 + k) * word ws intervalAt ≡ bound (settingsAt ws) k) × (word ws (factorsAt - 1 + k) * word ws intervalAt ≤ 1024)
-bound-code ws k r h l =
-    let e = bound-is ws k h l in
-    let m = bound-most ws k r h l in
-    (sym e, omega arith)
+-- The bound of a class, as the code computes it from its factor and D.
+pub bound-code : (ws : List ℕ) (k f d : ℕ) → Ready ws → 1 ≤ k → k ≤ word ws classesAt → f ≡ factor (contents ws .settings) k
+    → d ≡ contents ws .settings .interval → (f * d ≡ bound (settingsAt ws) k) × (f * d ≤ 1024)
+unfolding contents bound
+bound-code ws k f d r h l a b =
+    let e : f * d ≡ factor (settingsAt ws) k * settingsAt ws .interval = ap₂ _*_ a b in
+    let m : factor (settingsAt ws) k * settingsAt ws .interval ≤ 1024 = bound-most ws k r h l in
+    (e, omega arith)
+
+-- D is at most 256.
+pub interval-most : (ws : List ℕ) → Ready ws → word ws intervalAt ≤ 256
+interval-most ws r = let e = interval-is ws in let m = facts ws r .interval-most in omega arith
+
+-- D as the reader of the settings gives it.
+pub interval-read : (ws : List ℕ) (d : ℕ) → Ready ws → d ≡ contents ws .settings .interval → (d ≡ word ws intervalAt) × (d ≤ 256)
+interval-read ws d r e = let i = e ∙ interval-word ws in let m = interval-most ws r in (i, omega arith)
 
 -- E(t - d), as the code computes it.
 pub delayed-none : (E : ℕ → ℕ) (d t : ℕ) → t < d → 0 ≡ delayed E d t
@@ -136,9 +135,7 @@ way-nothing ws c t h = rw (le-ltb (t + word ws intervalAt) (bound (settingsAt ws
     either true = refl
     either false = refl
 
-pub interval-most : (ws : List ℕ) → Ready ws → word ws intervalAt ≤ 256
-interval-most ws r = let e = interval-is ws in let m = facts ws r .interval-most in omega arith
-
+-- M is at most 4,096.
 pub cycle-most : (ws : List ℕ) → Ready ws → word ws cycleAt ≤ 4096
 cycle-most ws r = let e = cycle-is ws in let m = facts ws r .cycle-most in omega arith
 

@@ -1,21 +1,17 @@
--- Connections as the code has them, the words that the search asks for, and what it finds.
-use Prim.Native.Nat.{ℕ, _+_, _*_, _≤_, _<_}
+-- What the search asks of the words, what it adds for a connection, and what it finds.
+use Prim.Native.Nat.{ℕ, _+_, _≤_, _<_}
 use mathlib.Core.Path.{_≡_}
 use mathlib.Core.Bool.{true, cond}
 use mathlib.Core.List.{List, [], _∷_, _++_, map}
-use lib.ListN.{length}
 use lib.Dec.{ltb}
 use Rattle.laws.specs.Search.{Search, failsAt, holds}
 use Rattle.meaning.specs.declared.Connection.{Connection}
 use Rattle.meaning.specs.Numbers.{Settings, bound, settingsAllowed, connectionAllowed}
 use Rattle.meaning.specs.Admission.{twelveRange}
-use Rattle.words.specs.Places.{boxWords, word, rowCountAt, rowsAt}
-use Rattle.words.specs.Contents.{settingsAt, standingAt, standings}
+use Rattle.words.specs.Places.{word, rowCountAt}
+use Rattle.words.specs.Contents.{settingsAt, askedAt, standings}
+use Rattle.words.specs.Sound.{Fitting}
 use Rattle.admission.specs.declared.Found.{Found}
-
--- What the connection in row i asked for.
-abbrev pub askedAt : List ℕ → ℕ → Connection
-askedAt ws i = standingAt ws (rowsAt + 6 * i) .asked
 
 -- "the set with the newcomer".
 unfoldable pub withAsked : List ℕ → Connection → List Connection
@@ -23,9 +19,8 @@ withAsked ws c = map (λ s. s .asked) (standings ws) ++ (c ∷ [])
 
 -- The words have all tables, with numbers that are allowed.
 pub record Ready (ws : List ℕ) : Type 0 where
-  pub enough : boxWords ≤ length ws
+  pub fitting : Fitting ws
   pub settings : settingsAllowed (settingsAt ws) ≡ true
-  pub rows : word ws rowCountAt ≤ 32
   pub each : (i : ℕ) → i < word ws rowCountAt → connectionAllowed (settingsAt ws) (askedAt ws i) ≡ true
 
 -- The newcomer's numbers are allowed.

@@ -1,6 +1,12 @@
 // The rate and the search for the first failing t, over the connections in words. Document 01, "Admission".
 use meaning::Connection;
-use words::places::ROWS_AT;
+use tables::rows::asked_at;
+use tables::rows::standing_count;
+use tables::settings::class_count;
+use tables::settings::class_factor;
+use tables::settings::cycle;
+use tables::settings::interval;
+use words::numbers::wide;
 ghost use mathlib.Core.Path.{_≡_};
 ghost use Prim.Native.Nat.{_≤_, _<_, max};
 ghost use Rattle.meaning.specs.Numbers.{bound};
@@ -11,26 +17,12 @@ ghost use Prim.Native.Nat.{_+_};
 ghost use lib.Dec.{leb, ltb};
 ghost use Rattle.words.specs.Places.{word, classesAt};
 ghost use Rattle.words.specs.Contents.{settingsAt};
-ghost use Rattle.admission.specs.Asking.{Ready, Allowed, Small, askedAt, withAsked, wayTerm, searchOf};
+ghost use Rattle.admission.specs.Asking.{Ready, Allowed, Small, withAsked, wayTerm, searchOf};
 
 // What the search finds: the first t that fails, or that none does.
 pub enum Found {
     FailsAt(u32),
     Holds,
-}
-
-// What the connection in row i asked for.
-pub fn asked_at(ws: &[u32], i: usize) -> Connection
-    requires { ⌜ Ready (now ws) × (i < 32) ⌝ }
-    ensures { λ r. ⌜ r ≡ askedAt (now (ws .entry)) i ⌝ }
-{
-    let at = ROWS_AT + 6 * i;
-    Connection {
-        class: ws[at],
-        longest: ws[at + 1],
-        burst: ws[at + 2],
-        period: ws[at + 3],
-    }
 }
 
 // E(t - d): nothing where d is above t.
@@ -49,8 +41,7 @@ fn bound_of(ws: &[u32], class: u32) -> u32
     requires { ⌜ Ready (now ws) × ((1 ≤ class) × (class ≤ word (now ws) classesAt)) ⌝ }
     ensures { λ r. ⌜ (r ≡ bound (settingsAt (now (ws .entry))) class) × (r ≤ 1024) ⌝ }
 {
-    let at = class as usize;
-    ws[2 + at] * ws[0]
+    class_factor(ws, class) * interval(ws)
 }
 
 // What one connection adds to the sum at t.
@@ -63,7 +54,7 @@ fn term_of(ws: &[u32], c: Connection, t: u32) -> u32
     if class == 1 {
         return delayed(c, d, t);
     }
-    delayed(c, d, t + ws[0])
+    delayed(c, d, t + interval(ws))
 }
 
 // What one connection counts for as the packet in the way at t: its longest packet, where (12) speaks of t and its bound exceeds t + D.
@@ -76,7 +67,7 @@ fn way_of(ws: &[u32], c: Connection, t: u32, speaks: bool) -> u32
     }
     let class = c.class;
     let d = bound_of(ws, class);
-    if t + ws[0] < d {
+    if t + interval(ws) < d {
         return c.longest;
     }
     0
@@ -108,13 +99,13 @@ pub fn rate(ws: &[u32], c: Connection) -> u32
     requires { ⌜ Ready (now ws) × Allowed (now ws) c ⌝ }
     ensures { λ r. ⌜ r ≡ rateIs (settingsAt (now (ws .entry))) (withAsked (now (ws .entry)) c) ⌝ }
 {
-    let n = ws[11] as usize;
-    let cycle = ws[1];
-    let mut sum = c.longest * (cycle / c.period);
+    let n = wide(standing_count(ws));
+    let slots = cycle(ws);
+    let mut sum = c.longest * (slots / c.period);
     let mut i = 0;
     while i < n {
         let row = asked_at(ws, i);
-        sum += row.longest * (cycle / row.period);
+        sum += row.longest * (slots / row.period);
         i += 1;
     }
     sum
@@ -125,17 +116,17 @@ pub fn first_failing(ws: &[u32], c: Connection) -> Found
     requires { ⌜ Ready (now ws) × Allowed (now ws) c ⌝ }
     ensures { λ r. ⌜ searchOf r ≡ finiteSearch (settingsAt (now (ws .entry))) (withAsked (now (ws .entry)) c) ⌝ }
 {
-    let n = ws[11] as usize;
-    let interval = ws[0];
+    let n = wide(standing_count(ws));
+    let turn = interval(ws);
     let first = bound_of(ws, 1);
-    let last = bound_of(ws, ws[2]);
-    let end = last + ws[1];
+    let last = bound_of(ws, class_count(ws));
+    let end = last + cycle(ws);
     let mut t: u32 = 0;
     let found = 'search: loop {
         if end <= t {
             break end;
         }
-        let speaks = speaks_of(first, last, interval, t);
+        let speaks = speaks_of(first, last, turn, t);
         let mut sum = term_of(ws, c, t);
         let mut way = way_of(ws, c, t, speaks);
         let mut i = 0;

@@ -22,12 +22,12 @@ use Rattle.meaning.specs.Calls.{withNewcomer, searchAnswer, withStanding, admis
 use Rattle.meaning.proofs.KeptByAdmission.{admission-keeps-sound}
 use Rattle.meaning.specs.declared.Standing.{Standing}
 use Rattle.words.specs.Places.{word, cycleAt, classesAt, rowCountAt, rowsAt}
-use Rattle.words.specs.Contents.{contents, settingsAt, standingAt, standings}
+use Rattle.words.specs.Contents.{askedAt, contents, settingsAt, standingAt, standings}
 use Rattle.words.specs.Sound.{soundWords}
 use Rattle.words.specs.Changes.{Become}
 use Rattle.words.proofs.Counts.{sound-fitting}
 use Rattle.words.proofs.TestedSound.{sound-contents}
-use Rattle.admission.specs.Asking.{Ready, Allowed, askedAt, withAsked}
+use Rattle.admission.specs.Asking.{Ready, Allowed, withAsked}
 use Rattle.admission.proofs.Tables.{class-count}
 use Rattle.multiplexer.specs.Promised.{Leaves}
 use Rattle.multiplexer.proofs.Sounds.{facts, leaves-same, leaves}
@@ -48,9 +48,8 @@ unfolding contents
 ready ws h =
     let f = facts ws h in
     record {
-      enough = sound-fitting ws h .enough;
+      fitting = sound-fitting ws h;
       settings = f .settings-allowed;
-      rows = sound-fitting ws h .rows;
       each =
           λ i l.
           subst (λ c. connectionAllowed (settingsAt ws) c ≡ true) (row-at ws i l)

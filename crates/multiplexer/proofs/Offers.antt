@@ -33,7 +33,8 @@ use Rattle.words.proofs.Counts.{sound-fitting, waiting-count}
 use Rattle.words.proofs.PutContents.{row-count}
 use Rattle.words.proofs.TestedSound.{sound-contents}
 use Rattle.words.proofs.Becoming.{become-then}
-use Rattle.admission.proofs.Tables.{class-count, factor-is}
+use Rattle.words.proofs.TableReads.{factor-at}
+use Rattle.admission.proofs.Tables.{class-count}
 use Rattle.envelope.specs.Record.{sender, Ready}
 use Rattle.multiplexer.specs.Promised.{Leaves, RowReady, Acceptable, acceptedBox}
 use Rattle.multiplexer.proofs.Sounds.{facts, leaves-same, leaves}
@@ -105,7 +106,7 @@ pub tag-is : (ws : List ℕ) (class : ℕ) → soundWords ws ≡ true → 1 ≤ 
     → (word ws (factorsAt - 1 + class) ≡ factor (contents ws .settings) class) × (word ws (factorsAt - 1 + class) ≤ largestFactor (contents ws .settings))
 unfolding contents
 tag-is ws class h a b =
-    let e = factor-is ws class a b in
+    let e = factor-at ws class a b in
     let k = class-count ws in
     let m = factor-within (settingsAt ws) class (settings-facts (settingsAt ws) (facts ws h .settings-allowed)) a (omega arith) in
     (sym e, omega arith)

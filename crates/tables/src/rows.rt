@@ -13,7 +13,7 @@ ghost use lib.ListN.{length, set};
 ghost use Rattle.meaning.specs.Box.{connection};
 ghost use Rattle.meaning.specs.Calls.{allowance, withStanding};
 ghost use Rattle.words.specs.Places.{word, rowCountAt};
-ghost use Rattle.words.specs.Contents.{contents};
+ghost use Rattle.words.specs.Contents.{askedAt, contents};
 ghost use Rattle.words.specs.Sound.{Fitting};
 ghost use Rattle.tables.specs.Opening.{asked};
 ghost use Rattle.words.specs.Changes.{Become};
@@ -44,6 +44,20 @@ pub fn read_row(ws: &[u32], n: u32) -> Standing
             next: ws[at + 4],
             credit: ws[at + 5],
         },
+    }
+}
+
+// What the connection in row i, counted from 0, asked for.
+pub fn asked_at(ws: &[u32], i: usize) -> Connection
+    requires { ⌜ Fitting (now ws) × (i < 32) ⌝ }
+    ensures { λ r. ⌜ r ≡ askedAt (now (ws .entry)) i ⌝ }
+{
+    let at = ROWS_AT + 6 * i;
+    Connection {
+        class: ws[at],
+        longest: ws[at + 1],
+        burst: ws[at + 2],
+        period: ws[at + 3],
     }
 }
 

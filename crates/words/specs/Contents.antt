@@ -1,9 +1,10 @@
 -- What words stand for, and how contents are put into words.
-use Prim.Native.Nat.{ℕ, zero, suc, _+_, _-_, _/_}
+use Prim.Native.Nat.{ℕ, zero, suc, _+_, _-_, _*_, _/_}
 use mathlib.Core.List.{List, [], _∷_, _++_, map, flatten}
 use lib.ListN.{length, getD, drop, replicate}
 use Rattle.laws.specs.Series.{series}
 use Rattle.meaning.specs.Numbers.{Settings, largestFactor}
+use Rattle.meaning.specs.declared.Connection.{Connection}
 use Rattle.meaning.specs.declared.Packet.{Packet}
 use Rattle.meaning.specs.declared.Standing.{Standing}
 use Rattle.meaning.specs.Box.{Box, Link, free, carries}
@@ -24,6 +25,10 @@ standingAt ws at =
 -- The rows of the connections that stand.
 unfoldable pub standings : List ℕ → List Standing
 standings ws = series (standingAt ws) 6 rowsAt (word ws rowCountAt)
+
+-- What the connection in row i, counted from 0, asked for.
+abbrev pub askedAt : List ℕ → ℕ → Connection
+askedAt ws i = standingAt ws (rowsAt + 6 * i) .asked
 
 -- The packet that starts at this word.
 unfoldable pub packetAt : List ℕ → ℕ → Packet

@@ -4,6 +4,7 @@ use mathlib.Core.Path.{ap, _∙_}
 use mathlib.Core.Logic.{⊎-elim}
 use Rattle.laws.specs.Search.{failsAt}
 use native.Mathlib.Omega.{arith}
+use Rattle.words.proofs.Readings.{cycle-word, classes-word}
 use Rattle.admission.proofs.Tables.{classes-within, cycle-most, row-allowed}
 use Rattle.admission.proofs.Searching.{Searching, Adding, known, speaks-range, begins, adds, fails-now, fails-before-all, goes-on, finds, finds-none}
 use Rattle.admission.proofs.first_failing.Statement.{statement}
@@ -22,39 +23,49 @@ Inv-search ws c n interval first last end t₀ t = Searching ws c n interval fir
 abbrev μ-search : tie.MeasureT-search
 μ-search ws c n interval first last end t₀ t = end - t
 
-shared-slice-read-n : tie.Need-shared-slice-read-n Inv-loop μ-loop Inv-search μ-search
-shared-slice-read-n c = omega (arith, c .before .before .pre .0 .enough)
+standing-count-requires : tie.Need-standing-count-requires Inv-loop μ-loop Inv-search μ-search
+standing-count-requires c κs = c .before .pre .0 .fitting
 
-cast-n : tie.Need-cast-n Inv-loop μ-loop Inv-search μ-search
-cast-n c = omega (arith, c .shared-slice-known2 .given 11)
+wide-requires : tie.Need-wide-requires Inv-loop μ-loop Inv-search μ-search
+wide-requires c κs = tt
 
-shared-slice-read-interval :
-    tie.Need-shared-slice-read-interval Inv-loop μ-loop Inv-search μ-search
-shared-slice-read-interval c = omega (arith, c .before .before .before .pre .0 .enough)
+interval-requires : tie.Need-interval-requires Inv-loop μ-loop Inv-search μ-search
+interval-requires c κs = c .before .before .before .pre .0 .fitting
 
 bound-of-requires : tie.Need-bound-of-requires Inv-loop μ-loop Inv-search μ-search
-bound-of-requires c κs = let s = c .before .before .before in (s .pre .0, (omega arith, classes-within (s .args .ws .now) (s .pre .0) .0))
+bound-of-requires c κs = let s = c .before .before .before .before in (s .pre .0, (omega arith, classes-within (s .args .ws .now) (s .pre .0) .0))
 
-shared-slice-read-bound-of :
-    tie.Need-shared-slice-read-bound-of Inv-loop μ-loop Inv-search μ-search
-shared-slice-read-bound-of c = omega (arith, c .before .before .before .before .before .pre .0 .enough)
+class-count-requires : tie.Need-class-count-requires Inv-loop μ-loop Inv-search μ-search
+class-count-requires c κs = c .before .before .before .before .before .pre .0 .fitting
 
 bound-of-requires-2 : tie.Need-bound-of-requires-2 Inv-loop μ-loop Inv-search μ-search
-bound-of-requires-2 c κs = let s = c .before .before .before .before .before in (s .pre .0, (classes-within (s .args .ws .now) (s .pre .0) .0, omega arith))
+bound-of-requires-2 c κs =
+    let s = c .before .before .before .before .before .before in
+    let n = c .class-count .ensures .0 ∙ classes-word (s .args .ws .now) in
+    (s .pre .0, (omega (arith, classes-within (s .args .ws .now) (s .pre .0) .0), omega arith))
 
-shared-slice-read-end : tie.Need-shared-slice-read-end Inv-loop μ-loop Inv-search μ-search
-shared-slice-read-end c = omega (arith, c .before .before .before .before .before .before .before .pre .0 .enough)
+cycle-requires : tie.Need-cycle-requires Inv-loop μ-loop Inv-search μ-search
+cycle-requires c κs = c .before .before .before .before .before .before .before .pre .0 .fitting
 
 add-end : tie.Need-add-end Inv-loop μ-loop Inv-search μ-search
-add-end c = let s = c .before .before .before .before .before .before .before in omega (arith, c .before .bound-of2 .ensures .1, cycle-most (s .args .ws .now) (s .pre .0))
+add-end c =
+    let s = c .before .before .before .before .before .before .before .before in
+    let m = c .cycle .ensures ∙ cycle-word (s .args .ws .now) in
+    omega (arith, c .before .bound-of2 .ensures .1, cycle-most (s .args .ws .now) (s .pre .0))
 
 search-holds : tie.Need-search-holds Inv-loop μ-loop Inv-search μ-search
 search-holds c =
-    let s = c .before .before .before .before .before .before .before in
+    let s = c .before .before .before .before .before .before .before .before in
+    let n = c .before .before .before .before .before .wide in
+    let d = c .before .before .before .before .interval in
     let f = c .before .before .before .bound-of in
+    let p = c .before .before .class-count in
     let l = c .before .bound-of2 in
+    let m = c .cycle in
     record {
-      knows = known (s .args .ws .now) (s .args .c) (f .result) (l .result) (s .pre .0) (s .pre .1) (f .ensures .0) (l .ensures .0) (l .ensures .1);
+      knows = known (s .args .ws .now) (s .args .c) (n .result) (d .result) (f .result) (p .result) (l .result) (m .result) (s .pre .0) (s .pre .1)
+          (n .ensures .0 ∙ c .before .before .before .before .before .before .standing-count .ensures) (d .ensures) (f .ensures .0) (p .ensures .0) (l .ensures)
+          (m .ensures);
       t-most = omega arith;
       held = λ k h. absurd (omega arith);
     }
@@ -90,7 +101,7 @@ loop-holds c =
 asked-at-requires : tie.Need-asked-at-requires Inv-loop μ-loop Inv-search μ-search
 asked-at-requires c κs =
     let k = c .before .loop .inv .outer .knows in
-    (k .ready, omega (arith, k .ready .rows, k .rows-are, c .loop-test .taken))
+    (k .ready .fitting, omega (arith, k .ready .fitting .rows, k .rows-are, c .loop-test .taken))
 
 term-of-requires-2 : tie.Need-term-of-requires-2 Inv-loop μ-loop Inv-search μ-search
 term-of-requires-2 c κs =
@@ -104,7 +115,7 @@ term-of-requires-2 c κs =
     )
 
 add-sum : tie.Need-add-sum Inv-loop μ-loop Inv-search μ-search
-add-sum c = let a = c .before .before .before .loop .inv in omega (arith, a .sum-most, c .term-of2 .ensures .1, c .before .before .loop-test .taken, a .outer .knows .rows-are, a .outer .knows .ready .rows)
+add-sum c = let a = c .before .before .before .loop .inv in omega (arith, a .sum-most, c .term-of2 .ensures .1, c .before .before .loop-test .taken, a .outer .knows .rows-are, a .outer .knows .ready .fitting .rows)
 
 way-of-requires-2 : tie.Need-way-of-requires-2 Inv-loop μ-loop Inv-search μ-search
 way-of-requires-2 c κs =
@@ -121,7 +132,7 @@ larger-requires : tie.Need-larger-requires Inv-loop μ-loop Inv-search μ-search
 larger-requires c κs = tt
 
 add-i : tie.Need-add-i Inv-loop μ-loop Inv-search μ-search
-add-i c = let a = c .before .before .before .before .before .before .loop .inv in omega (arith, a .i-most, a .outer .knows .rows-are, a .outer .knows .ready .rows)
+add-i c = let a = c .before .before .before .before .before .before .loop .inv in omega (arith, a .i-most, a .outer .knows .rows-are, a .outer .knows .ready .fitting .rows)
 
 loop-less : tie.Need-loop-less Inv-loop μ-loop Inv-search μ-search
 loop-less c = omega (arith, c .before .before .before .before .before .loop-test .taken)
@@ -132,7 +143,7 @@ loop-again c =
     (adds (c .before .before .before .before .before .before .loop .inv) (c .before .before .before .before .before .loop-test .taken) (c .before .before .before .before .asked-at .ensures) (c .before .before .before .term-of2 .ensures) (c .before .before .way-of2 .ensures))
 
 add-if3 : tie.Need-add-if3 Inv-loop μ-loop Inv-search μ-search
-add-if3 c = let a = c .before .loop .inv in omega (arith, a .sum-most, a .way-most, a .i-most, a .outer .knows .rows-are, a .outer .knows .ready .rows)
+add-if3 c = let a = c .before .loop .inv in omega (arith, a .sum-most, a .way-most, a .i-most, a .outer .knows .rows-are, a .outer .knows .ready .fitting .rows)
 
 add-t : tie.Need-add-t Inv-loop μ-loop Inv-search μ-search
 add-t c = let a = c .before .before .loop .inv in omega (arith, a .t-below, a .outer .knows .end-most)
@@ -175,13 +186,13 @@ first-failing-spec =
     μ-loop
     Inv-search
     μ-search
-    shared-slice-read-n
-    cast-n
-    shared-slice-read-interval
+    standing-count-requires
+    wide-requires
+    interval-requires
     bound-of-requires
-    shared-slice-read-bound-of
+    class-count-requires
     bound-of-requires-2
-    shared-slice-read-end
+    cycle-requires
     add-end
     search-holds
     speaks-of-requires

@@ -1,103 +1,74 @@
--- `admission::rate` meets its contract. The invariant: the sum is that of the newcomer and of the rows passed.
-use Prim.Native.Nat.{_+_, _*_, _-_, _≤_}
-use mathlib.Core.Path.{_≡_, ap, _∙_}
-use native.Mathlib.Numerals.{add-one}
+-- `admission::rate` meets its contract: what the loop keeps is in `Rating`.
+use Prim.Native.Nat.{_-_}
+use mathlib.Core.Path.{refl, _∙_}
 use native.Mathlib.Omega.{arith}
-use Rattle.laws.specs.Sums.{sumOf}
-use Rattle.words.specs.Places.{word, cycleAt, rowCountAt}
-use Rattle.admission.specs.Asking.{askedAt, withAsked}
-use Rattle.admission.proofs.Tables.{asked-small, row-allowed}
-use Rattle.admission.proofs.Rows.{rowsTo, rateTerm, sum-none, sum-next, sum-with, rate-is, rate-most}
+use Rattle.admission.proofs.Tables.{asked-small}
+use Rattle.words.proofs.Readings.{cycle-word}
+use Rattle.admission.proofs.Rating.{Rating, adds-most, rate-begins, next-allowed, next-most, rates-on, rated}
 use Rattle.admission.proofs.rate.Statement.{statement}
 use Rattle.admission.proofs.rate.Tie as tie
 
 abbrev Inv-loop : tie.InvT-loop
-Inv-loop ws n cycle sum₀ i₀ sum i =
-    (i ≤ n) × (sum ≡ sum₀ + sumOf (rateTerm cycle) (rowsTo ws i)) × (sum ≤ 262144 * (i + 1))
+Inv-loop ws n slots sum₀ i₀ sum i = Rating ws n slots sum₀ sum i
 
 abbrev μ-loop : tie.MeasureT-loop
-μ-loop ws n cycle sum₀ i₀ sum i = n - i
+μ-loop ws n slots sum₀ i₀ sum i = n - i
 
-shared-slice-read-n : tie.Need-shared-slice-read-n Inv-loop μ-loop
-shared-slice-read-n c = omega arith
+standing-count-requires : tie.Need-standing-count-requires Inv-loop μ-loop
+standing-count-requires c κs = c .before .pre .0 .fitting
 
-cast-n : tie.Need-cast-n Inv-loop μ-loop
-cast-n c = omega (arith, c .shared-slice-known2 .given 11)
+wide-requires : tie.Need-wide-requires Inv-loop μ-loop
+wide-requires c κs = tt
 
-shared-slice-read-cycle : tie.Need-shared-slice-read-cycle Inv-loop μ-loop
-shared-slice-read-cycle c = omega arith
+cycle-requires : tie.Need-cycle-requires Inv-loop μ-loop
+cycle-requires c κs = c .before .before .before .pre .0 .fitting
 
 div-sum : tie.Need-div-sum Inv-loop μ-loop
-div-sum c = let s = c .before .before .before .before in asked-small (s .args .ws .now) (s .args .c) (s .pre .1) .period-least
+div-sum c = let s = c .before .before .before .before .before in asked-small (s .args .ws .now) (s .args .c) (s .pre .1) .period-least
 
 mul-sum : tie.Need-mul-sum Inv-loop μ-loop
 mul-sum c =
-    let s = c .before .before .before .before .before in
-    omega (arith, rate-most (s .args .ws .now) (s .args .c) (s .pre .0) (s .pre .1))
+    let s = c .before .before .before .before .before .before in
+    let m = c .before .before .cycle in
+    omega (arith, adds-most (s .args .ws .now) (s .args .c) (m .result) (s .pre .0) (s .pre .1) (m .ensures ∙ cycle-word (s .args .ws .now)))
 
 loop-holds : tie.Need-loop-holds Inv-loop μ-loop
 loop-holds c =
-    let s = c .before .before .before .before .before in
-    let z = sum-none (rateTerm (word (s .args .ws .now) cycleAt)) (s .args .ws .now) in
-    (omega arith, omega arith, rate-most (s .args .ws .now) (s .args .c) (s .pre .0) (s .pre .1))
+    let s = c .before .before .before .before .before .before in
+    let n = c .before .before .before .wide in
+    let m = c .before .before .cycle in
+    rate-begins (s .args .ws .now) (s .args .c) (n .result) (m .result) (s .pre .0) (s .pre .1)
+    (n .ensures .0 ∙ c .before .before .before .before .standing-count .ensures) (m .ensures)
 
 asked-at-requires : tie.Need-asked-at-requires Inv-loop μ-loop
 asked-at-requires c κs =
-    let s = c .before .before .before .before .before .before .before in
-    (s .pre .0, omega (arith, s .pre .0 .rows))
+    let k = c .before .loop .inv in
+    (k .ready .fitting, omega (arith, k .rows-are, k .ready .fitting .rows, c .loop-test .taken))
 
 div-sum-2 : tie.Need-div-sum-2 Inv-loop μ-loop
 div-sum-2 c =
-    let s = c .before .before .before .before .before .before .before .before .before in
-    let r = c .before .asked-at in
-    asked-small (s .args .ws .now) (r .result)
-    (row-allowed (s .args .ws .now) (c .before .before .before .loop .i) (r .result) (s .pre .0) (c .before .before .loop-test .taken) (r .ensures)) .period-least
-
--- the row that was read adds at most 64 x 4,096
-row-most : (c : tie.After-struct-known4 Inv-loop μ-loop)
-    → rateTerm (word (c .before .before .before .before .before .before .before .before .before .before .args .ws .now) cycleAt) (c .before .before .asked-at .result) ≤ 262144
-row-most c =
-    let s = c .before .before .before .before .before .before .before .before .before .before in
-    let r = c .before .before .asked-at in
-    rate-most (s .args .ws .now) (r .result) (s .pre .0)
-    (row-allowed (s .args .ws .now) (c .before .before .before .before .loop .i) (r .result) (s .pre .0) (c .before .before .before .loop-test .taken) (r .ensures))
+    let k = c .before .before .before .loop .inv in
+    asked-small _ (c .before .asked-at .result) (next-allowed k (c .before .before .loop-test .taken) (c .before .asked-at .ensures)) .period-least
 
 mul-sum-2 : tie.Need-mul-sum-2 Inv-loop μ-loop
-mul-sum-2 c = omega (arith, row-most c)
+mul-sum-2 c = omega (arith, next-most (c .before .before .before .before .loop .inv) (c .before .before .before .loop-test .taken) (c .before .before .asked-at .ensures))
 
 add-sum : tie.Need-add-sum Inv-loop μ-loop
-add-sum c = omega (arith, row-most c, c .before .before .before .before .loop .inv .2, c .before .before .before .loop-test .taken, c .before .before .before .before .before .before .before .before .before .before .pre .0 .rows)
+add-sum c =
+    let k = c .before .before .before .before .loop .inv in
+    omega (arith, next-most k (c .before .before .before .loop-test .taken) (c .before .before .asked-at .ensures), k .sum-most, k .rows-are, k .ready .fitting .rows, c .before .before .before .loop-test .taken)
 
 add-i : tie.Need-add-i Inv-loop μ-loop
-add-i c = omega arith
+add-i c = let k = c .before .before .before .before .loop .inv in omega (arith, k .rows-are, k .ready .fitting .rows, c .before .before .before .loop-test .taken)
 
 loop-less : tie.Need-loop-less Inv-loop μ-loop
-loop-less c = omega arith
+loop-less c = omega (arith, c .before .before .before .loop-test .taken)
 
 loop-again : tie.Need-loop-again Inv-loop μ-loop
-loop-again c =
-    let s = c .before .before .before .before .before .before .before .before .before .before in
-    let l = c .before .before .before .before .loop in
-    let r = c .before .before .asked-at in
-    let ws = s .args .ws .now in
-    let n = sum-next (rateTerm (word ws cycleAt)) ws (l .i) in
-    let e : rateTerm (word ws cycleAt) (r .result) ≡ rateTerm (word ws cycleAt) (askedAt ws (l .i)) = ap (rateTerm (word ws cycleAt)) (r .ensures) in
-    let m = row-most c in
-    let i = l .inv .1 in
-    let k = l .inv .2 in
-    (omega (arith, c .before .before .before .loop-test .taken), rw (add-one (l .i)) (omega arith), omega arith)
+loop-again c = rates-on (c .before .before .before .before .loop .inv) (c .before .before .before .loop-test .taken) (c .before .before .asked-at .ensures)
 
 returns : tie.Need-returns Inv-loop μ-loop
-returns c =
-    let s = c .before .before .before .before .before .before .before in
-    let ws = s .args .ws .now in
-    let l = c .before .loop in
-    let i : l .i ≡ word ws rowCountAt = omega (arith, l .inv .0, c .loop-test .left) in
-    let e : sumOf (rateTerm (word ws cycleAt)) (rowsTo ws (l .i)) ≡ sumOf (rateTerm (word ws cycleAt)) (rowsTo ws (word ws rowCountAt)) = ap (λ k. sumOf (rateTerm (word ws cycleAt)) (rowsTo ws k)) i in
-    let w = sum-with (rateTerm (word ws cycleAt)) ws (s .args .c) in
-    let v = l .inv .1 in
-    let a : l .sum ≡ sumOf (rateTerm (word ws cycleAt)) (withAsked ws (s .args .c)) = omega arith in
-    a ∙ rate-is ws (s .args .c)
+returns c = rated (c .before .loop .inv) (c .loop-test .left) (c .before .before .before .before .before .before .before .before .args .c) refl
 
 pub rate-spec : {M : Type 1} → statement M
 rate-spec =
@@ -105,9 +76,9 @@ rate-spec =
     (tie.spec
     Inv-loop
     μ-loop
-    shared-slice-read-n
-    cast-n
-    shared-slice-read-cycle
+    standing-count-requires
+    wide-requires
+    cycle-requires
     div-sum
     mul-sum
     loop-holds

@@ -1,9 +1,9 @@
--- `admission::asked_at` meets its contract.
+-- `tables::rows::asked_at` meets its contract.
 use mathlib.Core.Path.{refl}
 use Rattle.words.specs.Contents.{standingAt}
 use borrow.Author.Needs.{needs}
-use Rattle.admission.proofs.asked_at.Statement.{statement}
-use Rattle.admission.proofs.asked_at.Tie as tie
+use Rattle.tables.proofs.rows.asked_at.Statement.{statement}
+use Rattle.tables.proofs.rows.asked_at.Tie as tie
 
 mul-at : tie.Need-mul-at
 mul-at c = search needs
