@@ -7,8 +7,8 @@ use words::places::COUNTER_AT;
 use words::places::FACTORS_BEFORE;
 use words::places::INTERVAL_AT;
 use words::places::LEFT_AT;
+use words::places::LENGTHS_AT;
 use words::places::LINK_AT;
-use words::places::LINK_END;
 use words::places::LINK_UNITS_AT;
 use words::places::ROW_COUNT_AT;
 use words::places::ROWS_BEFORE;
@@ -90,7 +90,7 @@ pub fn link_tested(ws: &[u32]) -> bool
 {
     let left = ws[LEFT_AT];
     if left == 0 {
-        return are_zero(ws, LINK_AT, LINK_END);
+        return are_zero(ws, LINK_AT, LENGTHS_AT);
     }
     if !packet_kept(ws, LINK_AT) {
         return false;

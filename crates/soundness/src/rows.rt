@@ -7,7 +7,6 @@ use words::places::COUNTER_AT;
 use words::places::CYCLE_AT;
 use words::places::ROW_COUNT_AT;
 use words::places::ROWS_AT;
-use words::places::ROWS_END;
 ghost use mathlib.Core.Path.{_≡_};
 ghost use Prim.Native.Nat.{_+_, _≤_};
 ghost use lib.ListN.{length};
@@ -91,5 +90,5 @@ pub fn rows_tested(ws: &[u32]) -> bool
     if !rows_kept(ws) {
         return false;
     }
-    are_zero(ws, ROWS_AT + 6 * wide(ws[ROW_COUNT_AT]), ROWS_END)
+    are_zero(ws, ROWS_AT + 6 * wide(ws[ROW_COUNT_AT]), COUNTER_AT)
 }

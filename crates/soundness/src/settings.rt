@@ -5,8 +5,8 @@ use words::numbers::wide;
 use words::places::CLASSES_AT;
 use words::places::CYCLE_AT;
 use words::places::FACTORS_AT;
-use words::places::FACTORS_END;
 use words::places::INTERVAL_AT;
+use words::places::ROW_COUNT_AT;
 ghost use mathlib.Core.Path.{_≡_};
 ghost use Prim.Native.Nat.{_≤_};
 ghost use lib.ListN.{length};
@@ -26,5 +26,5 @@ pub fn settings_tested(ws: &[u32]) -> bool
     if !settings_allowed(ws[INTERVAL_AT], ws[CYCLE_AT], &ws[FACTORS_AT..end]) {
         return false;
     }
-    are_zero(ws, end, FACTORS_END)
+    are_zero(ws, end, ROW_COUNT_AT)
 }

@@ -23,7 +23,7 @@ use Rattle.words.proofs.Same.{settings-same, standing-same, packet-same, zeros-
 -- a change of rows alone
 pub rows-become : (ws after : List ℕ) → Fitting ws → length after ≡ length ws
     → ((i : ℕ) → i < rowCountAt → word after i ≡ word ws i) → ((i : ℕ) → counterAt ≤ i → word after i ≡ word ws i)
-    → word after rowCountAt ≤ 32 → zeros after (rowsAt + 6 * word after rowCountAt) (192 - 6 * word after rowCountAt) ≡ true
+    → word after rowCountAt ≤ 32 → zeros after (rowsAt + 6 * word after rowCountAt) (counterAt - (rowsAt + 6 * word after rowCountAt)) ≡ true
     → Become ws after (withStanding (contents ws) (standings after))
 unfolding contents withStanding
 rows-become ws after k l near far n z =
@@ -38,7 +38,7 @@ rows-become ws after k l near far n z =
         interval = omega (arith, k .interval, near intervalAt (omega arith));
         classes-least = omega (arith, k .classes-least);
         classes = omega (arith, k .classes);
-        factors-clear = rw two (zeros-same ws after (factorsAt + word ws classesAt) (8 - word ws classesAt) (λ i a b. near i (omega (arith, k .classes))) ∙ k .factors-clear);
+        factors-clear = rw two (zeros-same ws after (factorsAt + word ws classesAt) (rowCountAt - (factorsAt + word ws classesAt)) (λ i a b. near i (omega (arith, k .classes))) ∙ k .factors-clear);
         rows = n;
         rows-clear = z;
         link-clear = link-clear-same ws after (λ i a b. far i (omega arith)) ∙ k .link-clear;
@@ -98,7 +98,7 @@ allowance-become ws n next credit k h l =
     let w4 : word after (at + 4) ≡ next = word-other mid (at + 5) credit (at + 4) (λ q. omega arith) ∙ word-same ws (at + 4) next (at + 4) (omega (arith, k .enough, k .rows)) refl in
     let w5 : word after (at + 5) ≡ credit = word-same mid (at + 5) credit (at + 5) (omega (arith, k .enough, k .rows)) refl in
     let b = rows-become ws after k la (λ i g. e i (λ q. omega arith) (λ q. omega arith)) (λ i g. e i (λ q. omega (arith, k .rows)) (λ q. omega (arith, k .rows)))
-    (omega (arith, k .rows)) (rw c (zeros-same ws after (rowsAt + 6 * word ws rowCountAt) (192 - 6 * word ws rowCountAt) (λ i x y. e i (λ q. omega arith) (λ q. omega arith)) ∙ k .rows-clear)) in
+    (omega (arith, k .rows)) (rw c (zeros-same ws after (rowsAt + 6 * word ws rowCountAt) (counterAt - (rowsAt + 6 * word ws rowCountAt)) (λ i x y. e i (λ q. omega arith) (λ q. omega arith)) ∙ k .rows-clear)) in
     rw (← (one-row ws after n next credit h l c (e at (λ q. omega arith) (λ q. omega arith)) (e (at + 1) (λ q. omega arith) (λ q. omega arith))
     (e (at + 2) (λ q. omega arith) (λ q. omega arith)) (e (at + 3) (λ q. omega arith) (λ q. omega arith)) w4 w5
     (λ i x. e i (λ q. omega arith) (λ q. omega arith)) (λ i x. e i (λ q. omega arith) (λ q. omega arith)))) b)
@@ -172,13 +172,13 @@ append-become ws mid s at v k l a q w =
     let n = word ws rowCountAt in
     let e : (i : ℕ) → (i ≡ rowCountAt → ⊥) → word after i ≡ word mid i = λ i h. word-other mid rowCountAt v i h in
     let c : word after rowCountAt ≡ suc n = word-same mid rowCountAt v rowCountAt (omega (arith, k .enough, w .same-length)) refl ∙ q in
-    let z0 : 6 + (192 - 6 * suc n) ≡ 192 - 6 * n = omega arith in
+    let z0 : 6 + (counterAt - (rowsAt + 6 * suc n)) ≡ counterAt - (rowsAt + 6 * n) = omega arith in
     let z1 : rowsAt + 6 * n + 6 ≡ rowsAt + 6 * suc n = omega arith in
-    let z : zeros ws (rowsAt + 6 * suc n) (192 - 6 * suc n) ≡ true =
-    sym (ap (λ x. zeros ws x (192 - 6 * suc n)) z1) ∙ zeros-later ws (rowsAt + 6 * n) 6 (192 - 6 * suc n) (ap (zeros ws (rowsAt + 6 * n)) z0 ∙ k .rows-clear) in
+    let z : zeros ws (rowsAt + 6 * suc n) (counterAt - (rowsAt + 6 * suc n)) ≡ true =
+    sym (ap (λ x. zeros ws x (counterAt - (rowsAt + 6 * suc n))) z1) ∙ zeros-later ws (rowsAt + 6 * n) 6 (counterAt - (rowsAt + 6 * suc n)) (ap (zeros ws (rowsAt + 6 * n)) z0 ∙ k .rows-clear) in
     let b = rows-become ws after k (length-set mid rowCountAt v ∙ w .same-length) (λ i h. e i (λ x. omega arith) ∙ w .below i (omega arith))
     (λ i h. e i (λ x. omega arith) ∙ w .above i (omega arith)) (omega arith)
-    (rw c (zeros-same ws after (rowsAt + 6 * suc n) (192 - 6 * suc n) (λ i x y. e i (λ u. omega arith) ∙ w .above i (omega arith)) ∙ z)) in
+    (rw c (zeros-same ws after (rowsAt + 6 * suc n) (counterAt - (rowsAt + 6 * suc n)) (λ i x y. e i (λ u. omega arith) ∙ w .above i (omega arith)) ∙ z)) in
     let r : standingAt after (rowsAt + 6 * n) ≡ s =
     standing-same mid after (rowsAt + 6 * n) (λ j x y. e j (λ u. omega arith)) ∙ ap (standingAt mid) (sym a) ∙ w .row in
     rw (more-rows ws after s c (λ i x y. e i (λ u. omega arith) ∙ w .below i (omega arith)) r) at b)

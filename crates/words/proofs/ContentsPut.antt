@@ -15,9 +15,10 @@ use Rattle.meaning.specs.declared.Packet.{Packet}
 use Rattle.meaning.specs.declared.Standing.{Standing}
 use Rattle.meaning.specs.Box.{Box, Link, free, carries, linkKept, sound}
 use Rattle.meaning.proofs.Facts.{sound-facts, settings-facts}
-use Rattle.words.specs.Places.{word, startOf, lengthsBelow, placeOf, tagOf, factorsAt, rowCountAt, rowsAt, counterAt, leftAt, linkAt, lengthsAt, packetsAt}
-use Rattle.words.specs.Contents.{contents, settingsAt, standingAt, standings, packetAt, linkOf, turnsAt, queueAt, queuesAt, padded, standingWords, packetWords, linkWords, turnsOf, byPlace, image, put}
+use Rattle.words.specs.Places.{word, startOf, lengthsBelow, placeOf, tagOf, intervalAt, factorsAt, rowCountAt, rowsAt, counterAt, leftAt, linkAt, lengthsAt, packetsAt}
+use Rattle.words.specs.Contents.{contents, settingsAt, standingAt, standings, packetAt, linkOf, turnsAt, queueAt, queuesAt, padded, standingWords, packetWords, linkWords, turnsOf, byPlace, laid, tables, image, put}
 use Rattle.words.specs.Sound.{zeros, unusedClear, linkClear, emptyFrom, untaggedEmpty}
+use Rattle.words.proofs.Laid.{after-part, zeros-read, entries-found, rest-clear, total, Fit, Found, after-laid, laid-found}
 use Rattle.words.proofs.Rotation.{place-below, tag-of-place}
 
 -- what contents must keep to be read again from their words
@@ -34,10 +35,6 @@ sound-puttable box e =
     (let f = sound-facts box e in
     let s = settings-facts (box .settings) (f .settings-allowed) in
     record { classes = s .classes-most; rows = f .connections-most; link = f .link-kept; largest = s .factor-most; tags = f .queue-count })
-
--- the words after a part
-after-part : (ws a b : List ℕ) (i n : ℕ) → drop i ws ≡ a ++ b → length a ≡ n → drop (i + n) ws ≡ b
-after-part ws a b i n e l = sym (drop-drop n i ws) ∙ ap (drop n) e ∙ drop-at a b n l
 
 word-at : (ws : List ℕ) (x : ℕ) (t : List ℕ) (i j : ℕ) → drop i ws ≡ t → getD t j 0 ≡ x → word ws (i + j) ≡ x
 word-at ws x t i j e q = sym (getD-drop i ws j 0) ∙ ap (λ l. getD l j 0) e ∙ q
@@ -72,65 +69,60 @@ pub packet-size : (p : Packet) → length (packetWords p) ≡ 4
 unfolding packetWords
 packet-size p = refl
 
-pub length-padded : (n : ℕ) (l : List ℕ) → length l ≤ n → length (padded n l) ≡ n
-unfolding padded
-length-padded n l h = rw (length-append l (replicate (n - length l) 0), length-replicate {A = ℕ} (n - length l) 0) (omega arith)
-
 pub link-size : (l : Link) → length (linkWords l) ≡ 5
 unfolding linkWords packetWords
 link-size free = refl
 link-size (carries p left) = refl
 
--- the parts of words that contents put
+-- The parts of words that contents put: every table where it stands, and the packets after them.
 record Parts (box : Box) (ws : List ℕ) : Type 0 where
   rest : List ℕ
-  at-0 : ws ≡ (box .settings .interval ∷ box .settings .cycle ∷ length (box .settings .factors) ∷ []) ++ drop factorsAt ws
-  at-3 : drop factorsAt ws ≡ padded 8 (box .settings .factors) ++ drop rowCountAt ws
-  at-11 : drop rowCountAt ws ≡ (length (box .standing) ∷ []) ++ drop rowsAt ws
-  at-12 : drop rowsAt ws ≡ padded 192 (flatten (map standingWords (box .standing))) ++ drop counterAt ws
-  at-204 : drop counterAt ws ≡ (box .counter ∷ box .accepted ∷ []) ++ drop leftAt ws
-  at-206 : drop leftAt ws ≡ linkWords (box .link) ++ drop lengthsAt ws
-  at-211 : drop lengthsAt ws ≡ map length (byPlace box) ++ drop packetsAt ws
-  at-275 : drop packetsAt ws ≡ flatten (map packetWords (flatten (byPlace box))) ++ rest
+  settings-part : ws ≡ padded (factorsAt - intervalAt) (box .settings .interval ∷ box .settings .cycle ∷ length (box .settings .factors) ∷ []) ++ drop factorsAt ws
+  factors-part : drop factorsAt ws ≡ padded (rowCountAt - factorsAt) (box .settings .factors) ++ drop rowCountAt ws
+  row-count-part : drop rowCountAt ws ≡ padded (rowsAt - rowCountAt) (length (box .standing) ∷ []) ++ drop rowsAt ws
+  rows-part : drop rowsAt ws ≡ padded (counterAt - rowsAt) (flatten (map standingWords (box .standing))) ++ drop counterAt ws
+  counts-part : drop counterAt ws ≡ padded (leftAt - counterAt) (box .counter ∷ box .accepted ∷ []) ++ drop leftAt ws
+  link-part : drop leftAt ws ≡ padded (lengthsAt - leftAt) (linkWords (box .link)) ++ drop lengthsAt ws
+  lengths-part : drop lengthsAt ws ≡ padded (packetsAt - lengthsAt) (map length (byPlace box)) ++ drop packetsAt ws
+  packets-part : drop packetsAt ws ≡ flatten (map packetWords (flatten (byPlace box))) ++ rest
 
 pub length-places : (box : Box) → length (byPlace box) ≡ 64
 unfolding byPlace
 length-places box = length-series (λ p. getD (box .queues) (tagOf (turnsOf box) p) []) 1 0 64
 
+-- The tables take the words before the packets.
+pub tables-total : (box : Box) → total (tables box) ≡ packetsAt
+unfolding total tables
+tables-total box = refl
+
+-- The words of every table of contents that can be put fit into it.
+pub tables-fit : (box : Box) → Puttable box → Fit (tables box)
+unfolding Fit tables
+tables-fit box k =
+    (let rows = length-chunks standingWords 6 standing-size (box .standing) in
+    let lengths : length (map (length {A = Packet}) (byPlace box)) ≡ 64 = length-map (byPlace box) length ∙ length-places box in
+    (omega arith, (omega (arith, k .classes), (omega arith, (omega (arith, rows, k .rows), (omega arith, (omega (arith, link-size (box .link)), (omega arith, tt))))))))
+
+-- Contents that are put have their parts in the words.
 put-parts : (box : Box) (ws : List ℕ) → Puttable box → Parts box (put box ws)
-unfolding put image
+unfolding put image Found tables
 put-parts box ws k =
-    (let ws′ = put box ws in
+    (let after = put box ws in
     let R = drop (length (image box)) ws in
-    let s1 = padded 8 (box .settings .factors) in
-    let s2 = length (box .standing) ∷ [] in
-    let s3 = padded 192 (flatten (map standingWords (box .standing))) in
-    let s4 = box .counter ∷ box .accepted ∷ [] in
-    let s5 = linkWords (box .link) in
-    let s6 = map length (byPlace box) in
-    let s7 = flatten (map packetWords (flatten (byPlace box))) in
-    let l1 : length s1 ≡ 8 = length-padded 8 (box .settings .factors) (k .classes) in
-    let l3 : length s3 ≡ 192 =
-    length-padded 192 (flatten (map standingWords (box .standing)))
-    (rw (length-chunks standingWords 6 standing-size (box .standing)) (omega (arith, k .rows))) in
-    let l6 : length s6 ≡ 64 = length-map (byPlace box) length ∙ length-places box in
-    let e3 : drop factorsAt ws′ ≡ s1 ++ (s2 ++ (s3 ++ (s4 ++ (s5 ++ (s6 ++ (s7 ++ R)))))) = simp append-assoc in
-    let e11 = after-part ws′ s1 (s2 ++ (s3 ++ (s4 ++ (s5 ++ (s6 ++ (s7 ++ R)))))) factorsAt 8 e3 l1 in
-    let e12 = after-part ws′ s2 (s3 ++ (s4 ++ (s5 ++ (s6 ++ (s7 ++ R))))) rowCountAt 1 e11 refl in
-    let e204 = after-part ws′ s3 (s4 ++ (s5 ++ (s6 ++ (s7 ++ R)))) rowsAt 192 e12 l3 in
-    let e206 = after-part ws′ s4 (s5 ++ (s6 ++ (s7 ++ R))) counterAt 2 e204 refl in
-    let e211 = after-part ws′ s5 (s6 ++ (s7 ++ R)) leftAt 5 e206 (link-size (box .link)) in
-    let e275 = after-part ws′ s6 (s7 ++ R) lengthsAt 64 e211 l6 in
+    let packets = flatten (map packetWords (flatten (byPlace box))) in
+    let fit = tables-fit box k in
+    let e : after ≡ laid (tables box) ++ (packets ++ R) = append-assoc (laid (tables box)) packets R in
+    let f = laid-found (tables box) after (packets ++ R) 0 fit e in
     record {
       rest = R;
-      at-0 = refl;
-      at-3 = e3 ∙ ap (λ t. s1 ++ t) (sym e11);
-      at-11 = e11 ∙ ap (λ t. s2 ++ t) (sym e12);
-      at-12 = e12 ∙ ap (λ t. s3 ++ t) (sym e204);
-      at-204 = e204 ∙ ap (λ t. s4 ++ t) (sym e206);
-      at-206 = e206 ∙ ap (λ t. s5 ++ t) (sym e211);
-      at-211 = e211 ∙ ap (λ t. s6 ++ t) (sym e275);
-      at-275 = e275;
+      settings-part = f .0;
+      factors-part = f .1 .0;
+      row-count-part = f .1 .1 .0;
+      rows-part = f .1 .1 .1 .0;
+      counts-part = f .1 .1 .1 .1 .0;
+      link-part = f .1 .1 .1 .1 .1 .0;
+      lengths-part = f .1 .1 .1 .1 .1 .1 .0;
+      packets-part = ap (λ n. drop (0 + n) after) (sym (tables-total box)) ∙ after-laid (tables box) after (packets ++ R) 0 fit e;
     })
 
 pub length-queue : (ws : List ℕ) (p : ℕ) → length (queueAt ws p) ≡ word ws (lengthsAt + p)
@@ -145,8 +137,9 @@ zeros-series start (suc n) = ap (λ l. 0 ∷ l) (zeros-series (start + 1) n)
 -- the lengths of the queues stand in their places
 length-read : (box : Box) (ws : List ℕ) → Parts box ws → (p : ℕ) → p < 64 → word ws (lengthsAt + p) ≡ length (getD (byPlace box) p [])
 length-read box ws k p h =
-    word-at ws (length (getD (byPlace box) p [])) (map length (byPlace box) ++ drop packetsAt ws) lengthsAt p (k .at-211)
-    (List·getD-append (map length (byPlace box)) (drop packetsAt ws) 0 p
+    word-at ws (length (getD (byPlace box) p [])) _ lengthsAt p
+    (entries-found ws (map length (byPlace box)) (drop packetsAt ws) lengthsAt (packetsAt - lengthsAt) (k .lengths-part))
+    (List·getD-append (map length (byPlace box)) _ 0 p
     (let l : length (map (length {A = Packet}) (byPlace box)) ≡ 64 = length-map (byPlace box) length ∙ length-places box in omega arith) ∙
     List·getD-map length (byPlace box) p [])
 
@@ -190,7 +183,7 @@ queue-found box ws k p h =
     let Q = flatten (map packetWords q) in
     let l : p < length places = omega (arith, length-places box) in
     let e : drop packetsAt ws ≡ flat a ++ (Q ++ (flat r ++ k .rest)) =
-    k .at-275 ∙ ap (λ t. flat t ++ k .rest) (split-at places p [] l) ∙ ap (λ t. t ++ k .rest) (flat-split a q r) ∙
+    k .packets-part ∙ ap (λ t. flat t ++ k .rest) (split-at places p [] l) ∙ ap (λ t. t ++ k .rest) (flat-split a q r) ∙
     append-assoc (flat a) (Q ++ flat r) (k .rest) ∙ ap (λ t. flat a ++ t) (append-assoc Q (flat r) (k .rest)) in
     after-part ws (flat a) (Q ++ (flat r ++ k .rest)) packetsAt (4 * lengthsBelow ws p) e
     (length-chunks packetWords 4 packet-size (flatten a) ∙ ap (λ n. 4 * n) (sym (below-read box ws k p (omega arith)))))
@@ -213,23 +206,46 @@ tag-read box ws parts k h =
     queue-read box ws parts p (place-below t k) ∙ getD-series f 1 0 64 p [] (place-below t k) ∙ ap f e ∙
     ap (λ n. getD (box .queues) n []) (tag-of-place t k h))
 
+-- The entries of the first table: D, M and P.
+settings-found : (box : Box) (ws : List ℕ) → Parts box ws
+    → drop intervalAt ws ≡ (box .settings .interval ∷ box .settings .cycle ∷ length (box .settings .factors) ∷ []) ++ (replicate (factorsAt - intervalAt - 3) 0 ++ drop factorsAt ws)
+settings-found box ws k =
+    entries-found ws (box .settings .interval ∷ box .settings .cycle ∷ length (box .settings .factors) ∷ []) (drop factorsAt ws) intervalAt (factorsAt - intervalAt) (k .settings-part)
+
+-- The number of rows is read.
+row-count-read : (box : Box) (ws : List ℕ) → Parts box ws → word ws rowCountAt ≡ length (box .standing)
+row-count-read box ws k =
+    word-at ws (length (box .standing)) _ rowCountAt 0
+    (entries-found ws (length (box .standing) ∷ []) (drop rowsAt ws) rowCountAt (rowsAt - rowCountAt) (k .row-count-part)) refl
+
+-- The entries of the table of counts.
+counts-found : (box : Box) (ws : List ℕ) → Parts box ws
+    → drop counterAt ws ≡ (box .counter ∷ box .accepted ∷ []) ++ (replicate (leftAt - counterAt - 2) 0 ++ drop leftAt ws)
+counts-found box ws k = entries-found ws (box .counter ∷ box .accepted ∷ []) (drop leftAt ws) counterAt (leftAt - counterAt) (k .counts-part)
+
+-- The entries of the table of the link.
+link-found : (box : Box) (ws : List ℕ) → Parts box ws
+    → drop leftAt ws ≡ linkWords (box .link) ++ (replicate (lengthsAt - leftAt - length (linkWords (box .link))) 0 ++ drop lengthsAt ws)
+link-found box ws k = entries-found ws (linkWords (box .link)) (drop lengthsAt ws) leftAt (lengthsAt - leftAt) (k .link-part)
+
+-- The settings are read.
 settings-read : (box : Box) (ws : List ℕ) → Parts box ws → settingsAt ws ≡ box .settings
-unfolding settingsAt padded
+unfolding settingsAt
 settings-read box ws k =
     (let fs = box .settings .factors in
-    let d = word-at ws (box .settings .interval) ws 0 0 refl (ap (λ l. getD l 0 0) (k .at-0)) in
-    let m = word-at ws (box .settings .cycle) ws 0 1 refl (ap (λ l. getD l 1 0) (k .at-0)) in
-    let n = word-at ws (length fs) ws 0 2 refl (ap (λ l. getD l 2 0) (k .at-0)) in
-    rw (d, m, n, series-read ws fs (replicate (8 - length fs) 0 ++ drop rowCountAt ws) factorsAt (k .at-3 ∙ append-assoc fs (replicate (8 - length fs) 0) (drop rowCountAt ws))))
+    let first = settings-found box ws k in
+    let d = word-at ws (box .settings .interval) _ intervalAt 0 first refl in
+    let m = word-at ws (box .settings .cycle) _ intervalAt 1 first refl in
+    let n = word-at ws (length fs) _ intervalAt 2 first refl in
+    rw (d, m, n, series-read ws fs _ factorsAt (entries-found ws fs (drop rowCountAt ws) factorsAt (rowCountAt - factorsAt) (k .factors-part))))
 
 standings-read : (box : Box) (ws : List ℕ) → Parts box ws → standings ws ≡ box .standing
-unfolding standings padded
+unfolding standings
 standings-read box ws k =
-    (let n = word-at ws (length (box .standing)) ((length (box .standing) ∷ []) ++ drop rowsAt ws) rowCountAt 0 (k .at-11) refl in
-    let words = flatten (map standingWords (box .standing)) in
-    let pad : List ℕ = replicate (192 - length words) 0 in
-    rw n (chunks-read (standingAt ws) standingWords 6 ws standing-size (standing-read ws) (box .standing) (pad ++ drop counterAt ws) rowsAt
-    (k .at-12 ∙ append-assoc words pad (drop counterAt ws))))
+    (let rows = flatten (map standingWords (box .standing)) in
+    rw (row-count-read box ws k)
+    (chunks-read (standingAt ws) standingWords 6 ws standing-size (standing-read ws) (box .standing) _ rowsAt
+    (entries-found ws rows (drop counterAt ws) rowsAt (counterAt - rowsAt) (k .rows-part))))
 
 pub link-carries : (left : ℕ) (p : Packet) → 1 ≤ left → linkOf left p ≡ carries p left
 unfolding linkOf
@@ -249,8 +265,8 @@ link-read (carries p left) ws r k e =
 turns-read : (box : Box) (ws : List ℕ) → Parts box ws → turnsAt ws ≡ turnsOf box
 unfolding turnsAt turnsOf
 turns-read box ws k =
-    (let d = word-at ws (box .settings .interval) ws 0 0 refl (ap (λ l. getD l 0 0) (k .at-0)) in
-    let n = word-at ws (box .counter) ((box .counter ∷ box .accepted ∷ []) ++ drop leftAt ws) counterAt 0 (k .at-204) refl in
+    (let d = word-at ws (box .settings .interval) _ intervalAt 0 (settings-found box ws k) refl in
+    let n = word-at ws (box .counter) _ counterAt 0 (counts-found box ws k) refl in
     rw (d, n))
 
 queues-read : (box : Box) (ws : List ℕ) → Puttable box → Parts box ws → queuesAt ws ≡ box .queues
@@ -266,47 +282,34 @@ queues-read box ws kept k =
 parts-contents : (box : Box) (ws : List ℕ) → Puttable box → Parts box ws → contents ws ≡ box
 unfolding contents
 parts-contents box ws kept k =
-    (let n = word-at ws (box .counter) ((box .counter ∷ box .accepted ∷ []) ++ drop leftAt ws) counterAt 0 (k .at-204) refl in
-    let a = word-at ws (box .accepted) ((box .counter ∷ box .accepted ∷ []) ++ drop leftAt ws) counterAt 1 (k .at-204) refl in
-    rw (settings-read box ws k, standings-read box ws k, n, a, link-read (box .link) ws (drop lengthsAt ws) (kept .link) (k .at-206), queues-read box ws kept k))
+    (let n = word-at ws (box .counter) _ counterAt 0 (counts-found box ws k) refl in
+    let a = word-at ws (box .accepted) _ counterAt 1 (counts-found box ws k) refl in
+    rw (settings-read box ws k, standings-read box ws k, n, a, link-read (box .link) ws _ (kept .link) (link-found box ws k), queues-read box ws kept k))
 
 -- contents that are put are read again
 pub contents-put : (box : Box) (ws : List ℕ) → Puttable box → contents (put box ws) ≡ box
 contents-put box ws k = parts-contents box (put box ws) k (put-parts box ws k)
 
-zeros-read : (ws r : List ℕ) (start n : ℕ) → drop start ws ≡ replicate n 0 ++ r → zeros ws start n ≡ true
-unfolding zeros
-zeros-read ws r start n e =
-    (let z : List ℕ = replicate n 0 in
-    ap (λ m. every (λ w. eqb w 0) (series (λ i. word ws i) 1 start m)) (sym (length-replicate {A = ℕ} n 0)) ∙
-    ap (every (λ w. eqb w 0)) (series-read ws z r start e) ∙ every-zeros n)
-
+-- What the tables of factors and rows do not use is 0.
 unused-put : (box : Box) (ws : List ℕ) → Parts box ws → unusedClear ws ≡ true
-unfolding unusedClear padded
+unfolding unusedClear
 unused-put box ws k =
     (let fs = box .settings .factors in
     let rows = flatten (map standingWords (box .standing)) in
-    let p = word-at ws (length fs) ws 0 2 refl (ap (λ l. getD l 2 0) (k .at-0)) in
-    let n = word-at ws (length (box .standing)) ((length (box .standing) ∷ []) ++ drop rowsAt ws) rowCountAt 0 (k .at-11) refl in
-    let a = k .at-3 ∙ append-assoc fs (replicate (8 - length fs) 0) (drop rowCountAt ws) in
-    let b = k .at-12 ∙ append-assoc rows (replicate (192 - length rows) 0) (drop counterAt ws) in
+    let p = word-at ws (length fs) _ intervalAt 2 (settings-found box ws k) refl in
     let m : length rows ≡ 6 * length (box .standing) = length-chunks standingWords 6 standing-size (box .standing) in
-    rw (p, n, ← m)
-    (and-eq-true-iff (zeros ws (factorsAt + length fs) (8 - length fs)) (zeros ws (rowsAt + length rows) (192 - length rows)) .1 (
-      zeros-read ws (drop rowCountAt ws) (factorsAt + length fs) (8 - length fs)
-          (after-part ws fs (replicate (8 - length fs) 0 ++ drop rowCountAt ws) factorsAt (length fs) a refl),
-      zeros-read ws (drop counterAt ws) (rowsAt + length rows) (192 - length rows)
-          (after-part ws rows (replicate (192 - length rows) 0 ++ drop counterAt ws) rowsAt (length rows) b refl),
-    )))
+    rw (p, row-count-read box ws k, ← m)
+    (and-eq-true-iff (zeros ws (factorsAt + length fs) (rowCountAt - (factorsAt + length fs))) (zeros ws (rowsAt + length rows) (counterAt - (rowsAt + length rows))) .1
+    (rest-clear ws fs (drop rowCountAt ws) factorsAt rowCountAt (k .factors-part), rest-clear ws rows (drop counterAt ws) rowsAt counterAt (k .rows-part))))
 
 link-put : (l : Link) (ws r : List ℕ) → linkKept l ≡ true → drop leftAt ws ≡ linkWords l ++ r → linkClear ws ≡ true
 unfolding linkWords linkClear linkKept
 link-put free ws r k e =
-    rw (word-at ws 0 (linkWords free ++ r) leftAt 0 e refl) (zeros-read ws r linkAt 4 (after-part ws (0 ∷ []) (0 ∷ 0 ∷ 0 ∷ 0 ∷ r) leftAt 1 e refl))
+    rw (word-at ws 0 (linkWords free ++ r) leftAt 0 e refl) (zeros-read ws r linkAt (lengthsAt - linkAt) (after-part ws (0 ∷ []) (0 ∷ 0 ∷ 0 ∷ 0 ∷ r) leftAt 1 e refl))
 link-put (carries p left) ws r k e =
     (let a : word ws leftAt ≡ left = word-at ws left (linkWords (carries p left) ++ r) leftAt 0 e refl in
     let h : 1 ≤ left = within-facts 1 left (p .units - 1) k .0 in
-    ap (λ b. cond b (zeros ws linkAt 4) true) (ne-eqb (word ws leftAt) 0 (omega arith)))
+    ap (λ b. cond b (zeros ws linkAt (lengthsAt - linkAt)) true) (ne-eqb (word ws leftAt) 0 (omega arith)))
 
 untagged-put : (box : Box) (ws : List ℕ) → Puttable box → Parts box ws → untaggedEmpty ws ≡ true
 unfolding untaggedEmpty emptyFrom
@@ -324,7 +327,7 @@ pub put-unused : (box : Box) (ws : List ℕ) → Puttable box → unusedClear (p
 put-unused box ws k = unused-put box (put box ws) (put-parts box ws k)
 
 pub put-link : (box : Box) (ws : List ℕ) → Puttable box → linkClear (put box ws) ≡ true
-put-link box ws k = link-put (box .link) (put box ws) (drop lengthsAt (put box ws)) (k .link) (put-parts box ws k .at-206)
+put-link box ws k = link-put (box .link) (put box ws) _ (k .link) (link-found box (put box ws) (put-parts box ws k))
 
 pub put-untagged : (box : Box) (ws : List ℕ) → Puttable box → untaggedEmpty (put box ws) ≡ true
 put-untagged box ws k = untagged-put box (put box ws) k (put-parts box ws k)

@@ -14,12 +14,13 @@ use Rattle.meaning.specs.Numbers.{largestFactor, classCount}
 use Rattle.meaning.specs.declared.Packet.{Packet}
 use Rattle.meaning.specs.Box.{Box, waiting, sound}
 use Rattle.meaning.proofs.Facts.{sound-facts, settings-facts}
-use Rattle.words.specs.Places.{boxWords, word, lengthsBelow, placeOf, tagOf, classesAt, factorsAt, rowCountAt, rowsAt, lengthsAt, packetsAt}
-use Rattle.words.specs.Contents.{contents, settingsAt, turnsAt, queueAt, queuesAt, standingWords, packetWords, turnsOf, byPlace, image, put}
+use Rattle.words.specs.Places.{boxWords, word, lengthsBelow, placeOf, tagOf, classesAt, factorsAt, rowCountAt, rowsAt, lengthsAt, packetsAt, counterAt}
+use Rattle.words.specs.Contents.{contents, settingsAt, turnsAt, queueAt, queuesAt, packetWords, turnsOf, byPlace, laid, tables, image, put}
 use Rattle.words.specs.Sound.{zeros, unusedClear, linkClear, untaggedEmpty, wellFormed, soundWords, Fitting}
+use Rattle.words.proofs.Laid.{length-laid}
 use Rattle.words.proofs.PutContents.{put-contents, class-count, row-count, untagged-zero}
 use Rattle.words.proofs.TableReads.{interval-at, classes-at}
-use Rattle.words.proofs.ContentsPut.{Puttable, sound-puttable, length-queue, standing-size, packet-size, length-padded, link-size, length-places, contents-put, put-unused, put-link, put-untagged}
+use Rattle.words.proofs.ContentsPut.{Puttable, sound-puttable, length-queue, packet-size, tables-total, tables-fit, contents-put, put-unused, put-link, put-untagged}
 
 pub lengths-sum : (ws : List ℕ) (p : ℕ) → lengthsBelow ws p ≡ sumBelow (λ i. word ws (lengthsAt + i)) p
 unfolding lengthsBelow sumBelow
@@ -59,14 +60,10 @@ places-count box h =
 pub image-size : (box : Box) → Puttable box → length (image box) ≡ packetsAt + 4 * length (waiting box)
 unfolding image
 image-size box k =
-    (let s1 = length-padded 8 (box .settings .factors) (k .classes) in
-    let s3 =
-    length-padded 192 (flatten (map standingWords (box .standing)))
-    (rw (length-chunks standingWords 6 standing-size (box .standing)) (omega (arith, k .rows))) in
-    let s6 : length (map (length {A = Packet}) (byPlace box)) ≡ 64 = length-map (byPlace box) length ∙ length-places box in
-    let s7 = length-chunks packetWords 4 packet-size (flatten (byPlace box)) in
+    (let fixed = length-laid (tables box) (tables-fit box k) ∙ tables-total box in
+    let packets = length-chunks packetWords 4 packet-size (flatten (byPlace box)) in
     let w = places-count box (omega (arith, k .tags, k .largest)) in
-    simp (length-append, s1, s3, link-size, s6, s7, w) (omega arith))
+    simp (length-append, fixed, packets, w) (omega arith))
 
 -- words with contents put into them are as many as before
 pub length-put : (box : Box) (ws : List ℕ) → Puttable box → length (waiting box) ≤ 1024 → boxWords ≤ length ws → length (put box ws) ≡ length ws
@@ -102,7 +99,7 @@ sound-fitting ws e =
     let b = and-eq-true-iff (leb boxWords (length ws) && unusedClear ws && linkClear ws) (untaggedEmpty ws) .0 (a .0) in
     let c = and-eq-true-iff (leb boxWords (length ws) && unusedClear ws) (linkClear ws) .0 (b .0) in
     let d = and-eq-true-iff (leb boxWords (length ws)) (unusedClear ws) .0 (c .0) in
-    let z = and-eq-true-iff (zeros ws (factorsAt + word ws classesAt) (8 - word ws classesAt)) (zeros ws (rowsAt + 6 * word ws rowCountAt) (192 - 6 * word ws rowCountAt)) .0 (d .1) in
+    let z = and-eq-true-iff (zeros ws (factorsAt + word ws classesAt) (rowCountAt - (factorsAt + word ws classesAt))) (zeros ws (rowsAt + 6 * word ws rowCountAt) (counterAt - (rowsAt + 6 * word ws rowCountAt))) .0 (d .1) in
     let f = sound-facts (contents ws) (a .1) in
     let s = settings-facts (settingsAt ws) (f .settings-allowed) in
     record {

@@ -1,5 +1,6 @@
 -- Laws of the layout and of soundness, and how contents change with words.
 pub mod Rotation
+pub mod Laid
 pub mod PutContents
 pub mod ContentsPut
 pub mod TableReads

@@ -5,29 +5,18 @@ use mathlib.Core.Bool.{true, cond}
 use mathlib.Core.List.{List, [], _∷_, _++_, map, flatten, append-nil}
 use native.Mathlib.Omega.{arith}
 use native.Mathlib.Decide.{decLe}
-use lib.ListN.{length, getD, drop, take-append-drop, getD-replicate, List·getD-eq-default}
+use lib.ListN.{length, getD, drop, replicate, take-append-drop, getD-replicate, List·getD-eq-default}
 use borrow.Author.Tests.{eq-eqb}
 use Rattle.laws.specs.Series.{series, length-series, getD-series, series-append, series-last, series-same, series-take, series-zeros, map-series, map-append, flatten-append, chunks-words, append-same}
 use Rattle.meaning.specs.Numbers.{largestFactor}
 use Rattle.meaning.specs.declared.Packet.{Packet}
 use Rattle.meaning.specs.Box.{Box}
 use Rattle.words.specs.Places.{word, startOf, lengthsBelow, placeOf, tagOf, intervalAt, cycleAt, classesAt, factorsAt, rowCountAt, rowsAt, counterAt, acceptedAt, leftAt, linkAt, lengthsAt, packetsAt}
-use Rattle.words.specs.Contents.{contents, settingsAt, standingAt, standings, packetAt, linkOf, turnsAt, queueAt, queuesAt, padded, standingWords, packetWords, linkWords, turnsOf, byPlace, image, put}
+use Rattle.words.specs.Contents.{contents, settingsAt, standingAt, standings, packetAt, linkOf, turnsAt, queueAt, queuesAt, padded, standingWords, packetWords, linkWords, turnsOf, byPlace, laid, tables, image, put}
 use Rattle.words.specs.Sound.{zeros, linkClear, emptyFrom, untaggedEmpty, Fitting}
+use Rattle.words.proofs.Laid.{padded-series, Reads, laid-series}
+use Rattle.words.proofs.ContentsPut.{tables-total}
 use Rattle.words.proofs.Rotation.{tag-below, place-of-tag}
-
--- a list with the zeros that follow it is the whole stretch
-pub padded-series : (ws : List ℕ) (start n size : ℕ) → n ≤ size → zeros ws (start + n) (size - n) ≡ true
-    → padded size (series (λ i. word ws i) 1 start n) ≡ series (λ i. word ws i) 1 start size
-unfolding padded zeros
-padded-series ws start n size h z =
-    (let w : ℕ → ℕ = λ i. word ws i in
-    let e : n + (size - n) ≡ size = omega arith in
-    let k : start + 1 * n ≡ start + n = omega arith in
-    rw (length-series w 1 start n)
-    (ap (λ l. series w 1 start n ++ l) (sym (series-zeros w 1 (start + n) (size - n) z)) ∙
-    sym (sym (ap (λ m. series w 1 start m) e) ∙ series-append w 1 start n (size - n) ∙
-    ap (λ m. series w 1 start n ++ series w 1 m (size - n)) k)))
 
 pub standing-words : (ws : List ℕ) (i : ℕ) → standingWords (standingAt ws i) ≡ series (λ j. word ws j) 1 i 6
 unfolding standingWords standingAt series
@@ -45,16 +34,16 @@ packet-words ws i =
     let b : i + 2 + 1 ≡ i + 3 = omega arith in
     rw (a, b))
 
-link-words-of : (ws : List ℕ) (n : ℕ) → word ws leftAt ≡ n → (n ≡ 0 → zeros ws linkAt 4 ≡ true)
-    → linkWords (linkOf n (packetAt ws linkAt)) ≡ series (λ j. word ws j) 1 leftAt 5
+link-words-of : (ws : List ℕ) (n : ℕ) → word ws leftAt ≡ n → (n ≡ 0 → zeros ws linkAt (lengthsAt - linkAt) ≡ true)
+    → linkWords (linkOf n (packetAt ws linkAt)) ≡ series (λ j. word ws j) 1 leftAt (lengthsAt - leftAt)
 unfolding linkWords linkOf series zeros
 link-words-of ws zero q z = rw q (ap (λ l. 0 ∷ l) (sym (series-zeros (λ j. word ws j) 1 linkAt 4 (z refl))))
 link-words-of ws (suc n) q z = rw q (ap (λ l. suc n ∷ l) (packet-words ws linkAt))
 
-pub link-words : (ws : List ℕ) → linkClear ws ≡ true → linkWords (linkOf (word ws leftAt) (packetAt ws linkAt)) ≡ series (λ j. word ws j) 1 leftAt 5
+pub link-words : (ws : List ℕ) → linkClear ws ≡ true → linkWords (linkOf (word ws leftAt) (packetAt ws linkAt)) ≡ series (λ j. word ws j) 1 leftAt (lengthsAt - leftAt)
 unfolding linkClear
 link-words ws e =
-    link-words-of ws (word ws leftAt) refl (λ q. sym (ap (λ b. cond b (zeros ws linkAt 4) true) (eq-eqb (word ws leftAt) 0 q)) ∙ e)
+    link-words-of ws (word ws leftAt) refl (λ q. sym (ap (λ b. cond b (zeros ws linkAt (lengthsAt - linkAt)) true) (eq-eqb (word ws leftAt) 0 q)) ∙ e)
 
 -- the queue at a place of no tag is empty
 pub queue-untagged : (ws : List ℕ) (p : ℕ) → word ws (lengthsAt + p) ≡ 0 → queueAt ws p ≡ []
@@ -135,21 +124,7 @@ unfolding byPlace contents turnsOf turnsAt settingsAt
 by-place ws e h =
     series-same (λ p. getD (queuesAt ws) (tagOf (turnsAt ws) p) []) (queueAt ws) 1 0 0 64 (λ i l. queue-tagged ws e h (0 + 1 * i) (omega arith))
 
--- where the tables end and the packets start: each part's words, one after another
-parts : (f : ℕ → ℕ) (m : ℕ)
-    → series f 1 0 3 ++ (series f 1 factorsAt 8 ++ (series f 1 rowCountAt 1 ++ (series f 1 rowsAt 192 ++ (series f 1 counterAt 2 ++ (series f 1 leftAt 5 ++ (series f 1 lengthsAt 64 ++ series f 1 packetsAt m))))))
-    ≡ series f 1 0 (packetsAt + m)
-parts f m =
-    (let e : packetsAt + m ≡ factorsAt + (8 + (1 + (192 + (2 + (5 + (64 + m)))))) = omega arith in
-    sym (ap (λ n. series f 1 0 n) e ∙ series-append f 1 0 3 (8 + (1 + (192 + (2 + (5 + (64 + m)))))) ∙
-    ap (λ l. series f 1 0 3 ++ l) (series-append f 1 factorsAt 8 (1 + (192 + (2 + (5 + (64 + m))))) ∙
-    ap (λ l. series f 1 factorsAt 8 ++ l) (series-append f 1 rowCountAt 1 (192 + (2 + (5 + (64 + m)))) ∙
-    ap (λ l. series f 1 rowCountAt 1 ++ l) (series-append f 1 rowsAt 192 (2 + (5 + (64 + m))) ∙
-    ap (λ l. series f 1 rowsAt 192 ++ l) (series-append f 1 counterAt 2 (5 + (64 + m)) ∙
-    ap (λ l. series f 1 counterAt 2 ++ l) (series-append f 1 leftAt 5 (64 + m) ∙
-    ap (λ l. series f 1 leftAt 5 ++ l) (series-append f 1 lengthsAt 64 m))))))))
-
-lengths-words : (ws : List ℕ) → map length (series (queueAt ws) 1 0 64) ≡ series (λ j. word ws j) 1 lengthsAt 64
+lengths-words : (ws : List ℕ) → map length (series (queueAt ws) 1 0 64) ≡ series (λ j. word ws j) 1 lengthsAt (packetsAt - lengthsAt)
 unfolding queueAt
 lengths-words ws =
     map-series length (queueAt ws) 1 0 64 ∙
@@ -157,27 +132,19 @@ lengths-words ws =
     (let e : lengthsAt + (0 + 1 * i) ≡ lengthsAt + 1 * i = omega arith in
     length-series (packetAt ws) 4 (startOf ws (0 + 1 * i)) (word ws (lengthsAt + (0 + 1 * i))) ∙ ap (λ x. word ws x) e))
 
-rows-words : (ws : List ℕ) → Fitting ws → padded 192 (flatten (map standingWords (standings ws))) ≡ series (λ j. word ws j) 1 rowsAt 192
+-- The table of rows.
+rows-words : (ws : List ℕ) → Fitting ws
+    → padded (counterAt - rowsAt) (flatten (map standingWords (standings ws))) ≡ series (λ j. word ws j) 1 rowsAt (counterAt - rowsAt)
 unfolding standings
 rows-words ws k =
     rw (chunks-words (standingAt ws) standingWords (λ j. word ws j) 6 (standing-words ws) rowsAt (word ws rowCountAt))
-    (padded-series ws rowsAt (6 * word ws rowCountAt) 192 (omega (arith, k .rows)) (k .rows-clear))
+    (padded-series ws rowsAt (6 * word ws rowCountAt) counterAt (omega (arith, k .rows)) (k .rows-clear))
 
-factors-words : (ws : List ℕ) → Fitting ws → padded 8 (settingsAt ws .factors) ≡ series (λ j. word ws j) 1 factorsAt 8
+-- The table of factors.
+factors-words : (ws : List ℕ) → Fitting ws
+    → padded (rowCountAt - factorsAt) (settingsAt ws .factors) ≡ series (λ j. word ws j) 1 factorsAt (rowCountAt - factorsAt)
 unfolding settingsAt
-factors-words ws k = padded-series ws factorsAt (word ws classesAt) 8 (k .classes) (k .factors-clear)
-
-three-words : (f : ℕ → ℕ) → f 0 ∷ f 1 ∷ f 2 ∷ [] ≡ series f 1 0 3
-unfolding series
-three-words f = refl
-
-one-word : (f : ℕ → ℕ) → f rowCountAt ∷ [] ≡ series f 1 rowCountAt 1
-unfolding series
-one-word f = refl
-
-two-words : (f : ℕ → ℕ) → f counterAt ∷ f acceptedAt ∷ [] ≡ series f 1 counterAt 2
-unfolding series
-two-words f = refl
+factors-words ws k = padded-series ws factorsAt (word ws classesAt) rowCountAt (omega (arith, k .classes)) (k .factors-clear)
 
 pub class-count : (ws : List ℕ) → length (settingsAt ws .factors) ≡ word ws classesAt
 unfolding settingsAt
@@ -187,31 +154,69 @@ pub row-count : (ws : List ℕ) → length (standings ws) ≡ word ws rowCountAt
 unfolding standings
 row-count ws = length-series (standingAt ws) 6 rowsAt (word ws rowCountAt)
 
-first-words : (ws : List ℕ) → settingsAt ws .interval ∷ settingsAt ws .cycle ∷ length (settingsAt ws .factors) ∷ [] ≡ series (λ j. word ws j) 1 0 3
-unfolding settingsAt
-first-words ws = ap (λ n. word ws intervalAt ∷ word ws cycleAt ∷ n ∷ []) (class-count ws) ∙ three-words (λ j. word ws j)
+-- The first table: D, M and P.
+first-words : (ws : List ℕ)
+    → padded (factorsAt - intervalAt) (settingsAt ws .interval ∷ settingsAt ws .cycle ∷ length (settingsAt ws .factors) ∷ [])
+    ≡ series (λ j. word ws j) 1 intervalAt (factorsAt - intervalAt)
+unfolding settingsAt padded series
+first-words ws = ap (λ n. word ws intervalAt ∷ word ws cycleAt ∷ n ∷ []) (class-count ws)
+
+-- The number of rows.
+row-count-words : (ws : List ℕ)
+    → padded (rowsAt - rowCountAt) (length (standings ws) ∷ []) ≡ series (λ j. word ws j) 1 rowCountAt (rowsAt - rowCountAt)
+unfolding padded series
+row-count-words ws = ap (λ n. n ∷ []) (row-count ws)
+
+-- The counter and the count of accepted packets.
+count-words : (ws : List ℕ)
+    → padded (leftAt - counterAt) (word ws counterAt ∷ word ws acceptedAt ∷ []) ≡ series (λ j. word ws j) 1 counterAt (leftAt - counterAt)
+unfolding padded series
+count-words ws = refl
+
+-- A list that has the size of its table needs no zeros.
+padded-whole : (n : ℕ) (l : List ℕ) → length l ≡ n → padded n l ≡ l
+unfolding padded
+padded-whole n l e = (let z : n - length l ≡ 0 = omega arith in ap (λ m. l ++ replicate m 0) z ∙ append-nil l)
+
+-- The tables of the contents are those in the words.
+tables-read : (ws : List ℕ) → Fitting ws → Reads (λ j. word ws j) 0 (tables (contents ws))
+unfolding Reads tables contents
+tables-read ws k =
+    (let places = by-place ws (k .untagged) (k .largest) in
+    let link = link-words ws (k .link-clear) in
+    let lengths = ap (map length) places ∙ lengths-words ws in (
+      first-words ws,
+      (
+        factors-words ws k,
+        (
+          row-count-words ws,
+          (
+            rows-words ws k,
+            (
+              count-words ws,
+              (
+                padded-whole (lengthsAt - leftAt) _ (ap length link ∙ length-series (λ j. word ws j) 1 leftAt (lengthsAt - leftAt)) ∙ link,
+                (
+                  padded-whole (packetsAt - lengthsAt) _
+                      (ap length lengths ∙ length-series (λ j. word ws j) 1 lengthsAt (packetsAt - lengthsAt)) ∙ lengths,
+                  tt,
+                ),
+              ),
+            ),
+          ),
+        ),
+      ),
+    ))
 
 -- the words of the contents are the first words
 pub image-contents : (ws : List ℕ) → Fitting ws → image (contents ws) ≡ series (λ j. word ws j) 1 0 (packetsAt + 4 * lengthsBelow ws 64)
-unfolding image contents
+unfolding image
 image-contents ws k =
     (let w : ℕ → ℕ = λ j. word ws j in
     let places = by-place ws (k .untagged) (k .largest) in
-    append-same (first-words ws) (
-    append-same (factors-words ws k) (
-    append-same (ap (λ n. n ∷ []) (row-count ws) ∙ one-word w) (
-    append-same (rows-words ws k) (
-    append-same (two-words w) (
-    append-same (link-words ws (k .link-clear)) (
-    append-same (ap (map length) places ∙ lengths-words ws)
-    (ap (λ qs. flatten (map packetWords (flatten qs))) places ∙ queues-words ws 64)
-    )
-    )
-    )
-    )
-    )
-    ) ∙
-    parts w (4 * lengthsBelow ws 64))
+    append-same (laid-series w (tables (contents ws)) 0 (tables-read ws k) ∙ ap (λ n. series w 1 0 n) (tables-total (contents ws)))
+    (ap (λ qs. flatten (map packetWords (flatten qs))) places ∙ queues-words ws 64) ∙
+    sym (series-append w 1 0 packetsAt (4 * lengthsBelow ws 64)))
 
 pub length-image : (ws : List ℕ) → Fitting ws → length (image (contents ws)) ≡ packetsAt + 4 * lengthsBelow ws 64
 length-image ws k = ap length (image-contents ws k) ∙ length-series (λ j. word ws j) 1 0 (packetsAt + 4 * lengthsBelow ws 64)

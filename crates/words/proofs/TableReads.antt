@@ -112,10 +112,10 @@ row-class ws at e =
 pub tables-tested : (ws : List ℕ) → boxWords ≤ length ws → settingsTested ws ≡ true → rowsTested ws ≡ true → Tables ws
 unfolding settingsTested rowsTested standings
 tables-tested ws h s r =
-    (let a = and-eq-true-iff (leb (word ws classesAt) 8 && settingsAllowed (settingsAt ws)) (zeros ws (factorsAt + word ws classesAt) (8 - word ws classesAt)) .0 s in
+    (let a = and-eq-true-iff (leb (word ws classesAt) 8 && settingsAllowed (settingsAt ws)) (zeros ws (factorsAt + word ws classesAt) (rowCountAt - (factorsAt + word ws classesAt))) .0 s in
     let b = and-eq-true-iff (leb (word ws classesAt) 8) (settingsAllowed (settingsAt ws)) .0 (a .0) in
     let f = settings-facts (settingsAt ws) (b .1) in
-    let c = and-eq-true-iff (leb (word ws rowCountAt) 32 && every (rowKept ws) (standings ws)) (zeros ws (rowsAt + 6 * word ws rowCountAt) (192 - 6 * word ws rowCountAt)) .0 r in
+    let c = and-eq-true-iff (leb (word ws rowCountAt) 32 && every (rowKept ws) (standings ws)) (zeros ws (rowsAt + 6 * word ws rowCountAt) (counterAt - (rowsAt + 6 * word ws rowCountAt))) .0 r in
     let d = and-eq-true-iff (leb (word ws rowCountAt) 32) (every (rowKept ws) (standings ws)) .0 (c .0) in
     let rows = every-index (rowKept ws) (standingAt ws) 6 rowsAt (word ws rowCountAt) (d .1) in
     record {

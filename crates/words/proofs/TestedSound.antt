@@ -30,10 +30,10 @@ record Parts (ws : List ℕ) : Type 0 where
   enough : boxWords ≤ length ws
   classes : word ws classesAt ≤ 8
   settings : settingsAllowed (settingsAt ws) ≡ true
-  factors-clear : zeros ws (factorsAt + word ws classesAt) (8 - word ws classesAt) ≡ true
+  factors-clear : zeros ws (factorsAt + word ws classesAt) (rowCountAt - (factorsAt + word ws classesAt)) ≡ true
   rows : word ws rowCountAt ≤ 32
   rows-kept : every (rowKept ws) (standings ws) ≡ true
-  rows-clear : zeros ws (rowsAt + 6 * word ws rowCountAt) (192 - 6 * word ws rowCountAt) ≡ true
+  rows-clear : zeros ws (rowsAt + 6 * word ws rowCountAt) (counterAt - (rowsAt + 6 * word ws rowCountAt)) ≡ true
   counter : word ws counterAt ≤ 4000000000
   total : lengthsBelow ws 64 ≤ 1024
   accepted : word ws acceptedAt ≤ word ws counterAt + (lengthsBelow ws 64 + cond (eqb (word ws leftAt) 0) 0 1)
@@ -53,9 +53,9 @@ tested-parts ws e =
     let c = and-eq-true-iff (l && S && R) C .0 (b .0) in
     let d = and-eq-true-iff (l && S) R .0 (c .0) in
     let f = and-eq-true-iff l S .0 (d .0) in
-    let s = and-eq-true-iff (leb (word ws classesAt) 8 && settingsAllowed (settingsAt ws)) (zeros ws (factorsAt + word ws classesAt) (8 - word ws classesAt)) .0 (f .1) in
+    let s = and-eq-true-iff (leb (word ws classesAt) 8 && settingsAllowed (settingsAt ws)) (zeros ws (factorsAt + word ws classesAt) (rowCountAt - (factorsAt + word ws classesAt))) .0 (f .1) in
     let s2 = and-eq-true-iff (leb (word ws classesAt) 8) (settingsAllowed (settingsAt ws)) .0 (s .0) in
-    let r = and-eq-true-iff (leb (word ws rowCountAt) mostConnections && every (rowKept ws) (standings ws)) (zeros ws (rowsAt + 6 * word ws rowCountAt) (192 - 6 * word ws rowCountAt)) .0 (d .1) in
+    let r = and-eq-true-iff (leb (word ws rowCountAt) mostConnections && every (rowKept ws) (standings ws)) (zeros ws (rowsAt + 6 * word ws rowCountAt) (counterAt - (rowsAt + 6 * word ws rowCountAt))) .0 (d .1) in
     let r2 = and-eq-true-iff (leb (word ws rowCountAt) mostConnections) (every (rowKept ws) (standings ws)) .0 (r .0) in
     let n = leb (word ws acceptedAt) (word ws counterAt + (lengthsBelow ws 64 + cond (eqb (word ws leftAt) 0) 0 1)) in
     let k = and-eq-true-iff (leb (word ws counterAt) lastSlot && leb (lengthsBelow ws 64) mostWaiting) n .0 (c .1) in
@@ -85,10 +85,10 @@ parts-tested ws p =
     let L = linkTested ws in
     let n = leb (word ws acceptedAt) (word ws counterAt + (lengthsBelow ws 64 + cond (eqb (word ws leftAt) 0) 0 1)) in
     let s : S ≡ true =
-    and-eq-true-iff (leb (word ws classesAt) 8 && settingsAllowed (settingsAt ws)) (zeros ws (factorsAt + word ws classesAt) (8 - word ws classesAt)) .1
+    and-eq-true-iff (leb (word ws classesAt) 8 && settingsAllowed (settingsAt ws)) (zeros ws (factorsAt + word ws classesAt) (rowCountAt - (factorsAt + word ws classesAt))) .1
     (and-eq-true-iff (leb (word ws classesAt) 8) (settingsAllowed (settingsAt ws)) .1 (le-leb _ _ (p .classes), p .settings), p .factors-clear) in
     let r : R ≡ true =
-    and-eq-true-iff (leb (word ws rowCountAt) mostConnections && every (rowKept ws) (standings ws)) (zeros ws (rowsAt + 6 * word ws rowCountAt) (192 - 6 * word ws rowCountAt)) .1
+    and-eq-true-iff (leb (word ws rowCountAt) mostConnections && every (rowKept ws) (standings ws)) (zeros ws (rowsAt + 6 * word ws rowCountAt) (counterAt - (rowsAt + 6 * word ws rowCountAt))) .1
     (and-eq-true-iff (leb (word ws rowCountAt) mostConnections) (every (rowKept ws) (standings ws)) .1 (le-leb _ _ (p .rows), p .rows-kept), p .rows-clear) in
     let c : C ≡ true =
     and-eq-true-iff (leb (word ws counterAt) lastSlot && leb (lengthsBelow ws 64) mostWaiting) n .1
@@ -116,21 +116,21 @@ link-facts ws e =
     ⊎-elim
     (λ (q : eqb (word ws leftAt) 0 ≡ true).
     (let z = eqb-true (word ws leftAt) 0 q in
-    let c : zeros ws linkAt 4 ≡ true =
-    sym (ap (λ b. cond b (zeros ws linkAt 4) (packetKept (contents ws) (packetAt ws linkAt) && ltb (word ws leftAt) (word ws (linkAt + 2)))) q) ∙ e in
+    let c : zeros ws linkAt (lengthsAt - linkAt) ≡ true =
+    sym (ap (λ b. cond b (zeros ws linkAt (lengthsAt - linkAt)) (packetKept (contents ws) (packetAt ws linkAt) && ltb (word ws leftAt) (word ws (linkAt + 2)))) q) ∙ e in
     record {
-      clear = ap (λ b. cond b (zeros ws linkAt 4) true) q ∙ c;
+      clear = ap (λ b. cond b (zeros ws linkAt (lengthsAt - linkAt)) true) q ∙ c;
       kept = ap (λ n. every (packetKept (contents ws)) (onLink (linkOf n (packetAt ws linkAt)))) z;
       left = ap (λ n. linkKept (linkOf n (packetAt ws linkAt))) z;
     }))
     (λ (q : eqb (word ws leftAt) 0 ≡ false).
     (let z = eqb-false (word ws leftAt) 0 q in
-    let t = sym (ap (λ b. cond b (zeros ws linkAt 4) (packetKept (contents ws) (packetAt ws linkAt) && ltb (word ws leftAt) (word ws (linkAt + 2)))) q) ∙ e in
+    let t = sym (ap (λ b. cond b (zeros ws linkAt (lengthsAt - linkAt)) (packetKept (contents ws) (packetAt ws linkAt) && ltb (word ws leftAt) (word ws (linkAt + 2)))) q) ∙ e in
     let a = and-eq-true-iff (packetKept (contents ws) (packetAt ws linkAt)) (ltb (word ws leftAt) (word ws (linkAt + 2))) .0 t in
     let h : word ws leftAt < word ws (linkAt + 2) = ltb-true _ _ (a .1) in
     let l = link-carries (word ws leftAt) (packetAt ws linkAt) (omega arith) in
     record {
-      clear = ap (λ b. cond b (zeros ws linkAt 4) true) q;
+      clear = ap (λ b. cond b (zeros ws linkAt (lengthsAt - linkAt)) true) q;
       kept = ap (λ l. every (packetKept (contents ws)) (onLink l)) l ∙ and-eq-true-iff (packetKept (contents ws) (packetAt ws linkAt)) true .1 (a .0, refl);
       left = ap linkKept l ∙ within-test 1 (word ws leftAt) (word ws (linkAt + 2) - 1) (omega arith) (omega arith);
     }))
@@ -141,14 +141,14 @@ unfolding linkTested linkClear onLink linkOf every linkKept packetAt
 link-test ws f =
     ⊎-elim
     (λ (q : eqb (word ws leftAt) 0 ≡ true).
-    ap (λ b. cond b (zeros ws linkAt 4) (packetKept (contents ws) (packetAt ws linkAt) && ltb (word ws leftAt) (word ws (linkAt + 2)))) q ∙
-    sym (ap (λ b. cond b (zeros ws linkAt 4) true) q) ∙ f .clear)
+    ap (λ b. cond b (zeros ws linkAt (lengthsAt - linkAt)) (packetKept (contents ws) (packetAt ws linkAt) && ltb (word ws leftAt) (word ws (linkAt + 2)))) q ∙
+    sym (ap (λ b. cond b (zeros ws linkAt (lengthsAt - linkAt)) true) q) ∙ f .clear)
     (λ (q : eqb (word ws leftAt) 0 ≡ false).
     (let z = eqb-false (word ws leftAt) 0 q in
     let l = link-carries (word ws leftAt) (packetAt ws linkAt) (omega arith) in
     let k = and-eq-true-iff (packetKept (contents ws) (packetAt ws linkAt)) true .0 (sym (ap (λ l. every (packetKept (contents ws)) (onLink l)) l) ∙ f .kept) in
     let w = within-facts 1 (word ws leftAt) (word ws (linkAt + 2) - 1) (sym (ap linkKept l) ∙ f .left) in
-    ap (λ b. cond b (zeros ws linkAt 4) (packetKept (contents ws) (packetAt ws linkAt) && ltb (word ws leftAt) (word ws (linkAt + 2)))) q ∙
+    ap (λ b. cond b (zeros ws linkAt (lengthsAt - linkAt)) (packetKept (contents ws) (packetAt ws linkAt) && ltb (word ws leftAt) (word ws (linkAt + 2)))) q ∙
     and-eq-true-iff (packetKept (contents ws) (packetAt ws linkAt)) (ltb (word ws leftAt) (word ws (linkAt + 2))) .1 (k .0, lt-ltb (word ws leftAt) (word ws (linkAt + 2)) (omega arith))))
     (bool-cases (eqb (word ws leftAt) 0))
 
@@ -224,7 +224,7 @@ parts-formed ws p =
       and-eq-true-iff (leb boxWords (length ws) && unusedClear ws) (linkClear ws) .1 (
         and-eq-true-iff (leb boxWords (length ws)) (unusedClear ws) .1 (
           le-leb _ _ (p .enough),
-          and-eq-true-iff (zeros ws (factorsAt + word ws classesAt) (8 - word ws classesAt)) (zeros ws (rowsAt + 6 * word ws rowCountAt) (192 - 6 * word ws rowCountAt)) .1 (p .factors-clear, p .rows-clear),
+          and-eq-true-iff (zeros ws (factorsAt + word ws classesAt) (rowCountAt - (factorsAt + word ws classesAt))) (zeros ws (rowsAt + 6 * word ws rowCountAt) (counterAt - (rowsAt + 6 * word ws rowCountAt))) .1 (p .factors-clear, p .rows-clear),
         ),
         link-facts ws (p .link) .clear,
       ),

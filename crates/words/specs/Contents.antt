@@ -8,7 +8,7 @@ use Rattle.meaning.specs.declared.Connection.{Connection}
 use Rattle.meaning.specs.declared.Packet.{Packet}
 use Rattle.meaning.specs.declared.Standing.{Standing}
 use Rattle.meaning.specs.Box.{Box, Link, free, carries}
-use Rattle.words.specs.Places.{word, startOf, placeOf, tagOf, intervalAt, cycleAt, classesAt, factorsAt, rowCountAt, rowsAt, counterAt, acceptedAt, leftAt, linkAt, lengthsAt}
+use Rattle.words.specs.Places.{word, startOf, placeOf, tagOf, intervalAt, cycleAt, classesAt, factorsAt, rowCountAt, rowsAt, counterAt, acceptedAt, leftAt, linkAt, lengthsAt, packetsAt}
 
 -- The settings: D, M and as many factors as word 2 says.
 unfoldable pub settingsAt : List ℕ → Settings
@@ -100,17 +100,31 @@ turnsOf box = box .counter / box .settings .interval
 unfoldable pub byPlace : Box → List (List Packet)
 byPlace box = series (λ p. getD (box .queues) (tagOf (turnsOf box) p) []) 1 0 64
 
+-- A table: how many words it takes, and the words in it; zeros fill it up.
+pub record Table : Type 0 where
+  pub size : ℕ
+  pub entries : List ℕ
+
+-- Tables laid one after another.
+unfoldable pub laid : List Table → List ℕ
+laid [] = []
+laid (t ∷ ts) = padded (t .size) (t .entries) ++ laid ts
+
+-- The tables of a box, in their order; each ends at the place of the next.
+unfoldable pub tables : Box → List Table
+tables box =
+    record { size = factorsAt - intervalAt; entries = box .settings .interval ∷ box .settings .cycle ∷ length (box .settings .factors) ∷ [] } ∷
+    record { size = rowCountAt - factorsAt; entries = box .settings .factors } ∷
+    record { size = rowsAt - rowCountAt; entries = length (box .standing) ∷ [] } ∷
+    record { size = counterAt - rowsAt; entries = flatten (map standingWords (box .standing)) } ∷
+    record { size = leftAt - counterAt; entries = box .counter ∷ box .accepted ∷ [] } ∷
+    record { size = lengthsAt - leftAt; entries = linkWords (box .link) } ∷
+    record { size = packetsAt - lengthsAt; entries = map length (byPlace box) } ∷
+    []
+
 -- The words of contents: the tables, then the waiting packets queue after queue.
 unfoldable pub image : Box → List ℕ
-image box =
-    (box .settings .interval ∷ box .settings .cycle ∷ length (box .settings .factors) ∷ []) ++
-    (padded 8 (box .settings .factors) ++
-    ((length (box .standing) ∷ []) ++
-    (padded 192 (flatten (map standingWords (box .standing))) ++
-    ((box .counter ∷ box .accepted ∷ []) ++
-    (linkWords (box .link) ++
-    (map length (byPlace box) ++
-    flatten (map packetWords (flatten (byPlace box)))))))))
+image box = laid (tables box) ++ flatten (map packetWords (flatten (byPlace box)))
 
 -- Contents put into words: the words past the last packet stay.
 unfoldable pub put : Box → List ℕ → List ℕ

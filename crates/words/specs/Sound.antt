@@ -9,7 +9,7 @@ use Rattle.laws.specs.Series.{series}
 use Rattle.laws.specs.Tests.{every}
 use Rattle.meaning.specs.Numbers.{largestFactor}
 use Rattle.meaning.specs.Box.{sound}
-use Rattle.words.specs.Places.{boxWords, word, lengthsBelow, placeOf, intervalAt, classesAt, factorsAt, rowCountAt, rowsAt, leftAt, linkAt, lengthsAt}
+use Rattle.words.specs.Places.{boxWords, word, lengthsBelow, placeOf, intervalAt, classesAt, factorsAt, rowCountAt, rowsAt, leftAt, linkAt, lengthsAt, counterAt}
 use Rattle.words.specs.Contents.{contents, settingsAt, turnsAt}
 
 -- n words from `start` on are 0.
@@ -18,11 +18,11 @@ zeros ws start n = every (λ w. eqb w 0) (series (λ i. word ws i) 1 start n)
 
 -- The places of the factors and of the rows that are not used are 0.
 unfoldable pub unusedClear : List ℕ → Bool
-unusedClear ws = zeros ws (factorsAt + word ws classesAt) (8 - word ws classesAt) && zeros ws (rowsAt + 6 * word ws rowCountAt) (192 - 6 * word ws rowCountAt)
+unusedClear ws = zeros ws (factorsAt + word ws classesAt) (rowCountAt - (factorsAt + word ws classesAt)) && zeros ws (rowsAt + 6 * word ws rowCountAt) (counterAt - (rowsAt + 6 * word ws rowCountAt))
 
 -- Where no units are left on the link, its packet's words are 0.
 unfoldable pub linkClear : List ℕ → Bool
-linkClear ws = cond (eqb (word ws leftAt) 0) (zeros ws linkAt 4) true
+linkClear ws = cond (eqb (word ws leftAt) 0) (zeros ws linkAt (lengthsAt - linkAt)) true
 
 -- The lengths of the queues with numbers `tag` and up, of which there are n, are 0.
 unfoldable pub emptyFrom : List ℕ → ℕ → ℕ → Bool
@@ -50,9 +50,9 @@ pub record Fitting (ws : List ℕ) : Type 0 where
   pub interval : 1 ≤ word ws intervalAt
   pub classes-least : 1 ≤ word ws classesAt
   pub classes : word ws classesAt ≤ 8
-  pub factors-clear : zeros ws (factorsAt + word ws classesAt) (8 - word ws classesAt) ≡ true
+  pub factors-clear : zeros ws (factorsAt + word ws classesAt) (rowCountAt - (factorsAt + word ws classesAt)) ≡ true
   pub rows : word ws rowCountAt ≤ 32
-  pub rows-clear : zeros ws (rowsAt + 6 * word ws rowCountAt) (192 - 6 * word ws rowCountAt) ≡ true
+  pub rows-clear : zeros ws (rowsAt + 6 * word ws rowCountAt) (counterAt - (rowsAt + 6 * word ws rowCountAt)) ≡ true
   pub link-clear : linkClear ws ≡ true
   pub largest : largestFactor (settingsAt ws) ≤ 63
   pub untagged : untaggedEmpty ws ≡ true

@@ -29,14 +29,4 @@ pub const FACTORS_BEFORE: usize = FACTORS_AT - 1;
 
 pub const ROWS_BEFORE: usize = ROWS_AT - 6;
 
-pub const FACTORS_END: usize = FACTORS_AT + 8;
-
-pub const ROWS_END: usize = ROWS_AT + 192;
-
-pub const LINK_CONNECTION_AT: usize = LINK_AT + 1;
-
 pub const LINK_UNITS_AT: usize = LINK_AT + 2;
-
-pub const LINK_ARRIVAL_AT: usize = LINK_AT + 3;
-
-pub const LINK_END: usize = LINK_AT + 4;

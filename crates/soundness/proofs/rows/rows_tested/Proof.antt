@@ -2,7 +2,7 @@
 use Rattle.words.specs.Sound.{zeros}
 use Rattle.words.specs.Tested.{rowKept, rowsTested}
 use Rattle.words.specs.Contents.{standings}
-use Rattle.words.specs.Places.{word, rowCountAt, rowsAt}
+use Rattle.words.specs.Places.{word, rowCountAt, rowsAt, counterAt}
 use Rattle.laws.specs.Tests.{every}
 use mathlib.Core.Bool.{true, false, and-false}
 use borrow.Author.Tests.{le-leb, lt-leb, not-true, not-false}
@@ -51,8 +51,7 @@ returns-3 c =
     let ws = c .before .before .before .before .before .before .before .before .args .ws .now in
     let e : every (rowKept ws) (standings ws) ≡ true = sym (c .before .before .before .before .rows-kept .ensures) ∙ not-false _ (c .before .before .before .if2 .left) in
     let n = c .before .wide .ensures .0 in
-    let k : rowsAt + 192 - (rowsAt + 6 * word ws rowCountAt) ≡ 192 - 6 * word ws rowCountAt = omega arith in
-    c .are-zero .ensures ∙ ap (λ m. zeros ws (rowsAt + 6 * m) (rowsAt + 192 - (rowsAt + 6 * m))) n ∙ ap (zeros ws (rowsAt + 6 * word ws rowCountAt)) k ∙
+    c .are-zero .ensures ∙ ap (λ m. zeros ws (rowsAt + 6 * m) (counterAt - (rowsAt + 6 * m))) n ∙
     sym (simp (le-leb _ _ (c .before .before .before .before .before .if1 .left), e))
 
 pub rows-tested-spec : {M : Type 1} → statement M

@@ -5,7 +5,7 @@ use Rattle.words.specs.Sound.{zeros}
 use Rattle.laws.specs.Series.{series, series-take}
 use Rattle.words.specs.Tested.{settingsTested}
 use Rattle.words.specs.Contents.{settingsAt}
-use Rattle.words.specs.Places.{word, intervalAt, cycleAt, classesAt, factorsAt}
+use Rattle.words.specs.Places.{word, intervalAt, cycleAt, classesAt, factorsAt, rowCountAt}
 use lib.ListN.{take, drop}
 use lib.Dec.{leb}
 use mathlib.Core.Bool.{true, false, and-false}
@@ -76,8 +76,7 @@ returns-3 c =
     let e : settingsAllowed (settingsAt ws) ≡ true =
     sym (ap (λ fs. settingsAllowed (asked (word ws intervalAt) (word ws cycleAt) fs)) s) ∙ sym (c .before .before .settings-allowed .ensures) ∙ not-false _ (c .before .if2 .left) in
     let l : leb (word ws classesAt) 8 ≡ true = le-leb (word ws classesAt) 8 (omega (arith, c .before .before .before .before .before .before .if1 .left)) in
-    let k : factorsAt + 8 - (factorsAt + word ws classesAt) ≡ 8 - word ws classesAt = omega arith in
-    c .are-zero .ensures ∙ ap (λ m. zeros ws (factorsAt + m) (factorsAt + 8 - (factorsAt + m))) w ∙ ap (zeros ws (factorsAt + word ws classesAt)) k ∙ sym (simp (l, e))
+    c .are-zero .ensures ∙ ap (λ m. zeros ws (factorsAt + m) (rowCountAt - (factorsAt + m))) w ∙ sym (simp (l, e))
 
 pub settings-tested-spec : {M : Type 1} → statement M
 settings-tested-spec =
