@@ -1,7 +1,8 @@
 #!/usr/bin/env python3
-"""make_run_vectors.py: the whole runs that the built program must make. Writes the plans of tests/stored/runs, 01.plan upward, and its file
-`lines`: for each plan in order a line `== NN` and the lines of its run. Writes examples/*.lines too. The lines come from the independent
-program in tests/reference, which is built first. Every answer number that a plan can give must be among them.
+"""make_run_vectors.py: the whole runs that the built program must make. Writes the plans of tests/stored/runs, 01.plan upward, and its
+file `lines`: for each plan in order a line `== NN` and the lines of its run. Writes examples/*.lines too, and the worked run of document
+01 on which `rt` runs the program. The lines come from the independent program in tests/reference, which is built first. Every answer
+number that a plan can give must be among them.
 
     tests/make_run_vectors.py            write them, and say which plan is which
     tests/make_run_vectors.py --check    write nothing; exit status 1 where a file differs from what would be written"""
@@ -187,6 +188,8 @@ def expected():
     assert 45 <= len(names) <= MOST_PLANS and sum(map(len, files.values())) <= MOST_BYTES
     assert answers(text, "REFUSED", 1) == REFUSALS and answers(text, "STOP", 1) == set()
     assert answers(text, "ADMIT", 2) == ADMISSIONS and answers(text, "OFFER", 2) == OFFERS
+    files["crates/gateway/stdin"] = WORKED
+    files["crates/gateway/stdout"] = lines_of(program, WORKED)
     for name, plan in examples():
         files["examples/%s.lines" % name] = lines_of(program, plan)
     return files, names
@@ -196,7 +199,7 @@ def main(words):
     files, names = expected()
     if not words:
         print("\n".join(names))
-    return settle("run vectors", files, [STORED + "/*", "examples/*.lines"], words)
+    return settle("run vectors", files, [STORED + "/*", "examples/*.lines", "crates/gateway/std*"], words)
 
 
 if __name__ == "__main__":

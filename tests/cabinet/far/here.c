@@ -63,7 +63,7 @@ static size_t put_gap(size_t at)
     return at + GAP;
 }
 
-/* Puts what is lent into the shared memory, each at an address of its own alignment. */
+/* Puts what is lent into the shared memory, aligned for words. */
 static void send(const struct lent *lent, int count)
 {
     size_t at = 0;

@@ -1,6 +1,5 @@
 /* There: makes the calls that the other process asks for, with the library. Its argument is the descriptor of the shared memory. */
 #include <sched.h>
-#include <stdio.h>
 #include <stdlib.h>
 #include <sys/mman.h>
 #include <unistd.h>
