@@ -1,5 +1,5 @@
 /* The calls of the library made in another process, for a machine that cannot link it: what is lent goes there and comes back in shared
-   memory. */
+   memory; a byte on a pipe says that a call is to be made, and one on another that it has been made. */
 #ifndef FAR_H
 #define FAR_H
 
@@ -23,11 +23,7 @@ enum function {
 
 enum { MOST_LENT = 5, MOST_NUMBERS = 5, GAP = 64, ROOM = 1 << 20 };
 
-/* Whose turn it is. */
-enum turn { HERE, THERE };
-
 struct far {
-    uint32_t turn;
     uint32_t function;
     uint64_t numbers[MOST_NUMBERS];
     uint64_t start[MOST_LENT]; /* the first byte of what is lent, in `bytes` */

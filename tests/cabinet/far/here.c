@@ -1,18 +1,17 @@
 /* Here: the functions of include/zeppilorn.h, each of which has its call made there: PROGRAM is that process, and RUNNER starts it. */
 #define _GNU_SOURCE
-#include <sched.h>
+#include <fcntl.h>
 #include <stdio.h>
 #include <stdlib.h>
 #include <string.h>
 #include <sys/mman.h>
-#include <sys/wait.h>
 #include <unistd.h>
 
 #include "far.h"
 #include "zeppilorn.h"
 
 static struct far *far;
-static pid_t other;
+static int asks, answers;
 
 static void must(int holds, const char *what)
 {
@@ -28,14 +27,22 @@ static void start(void)
     must(fd >= 0 && ftruncate(fd, sizeof *far) == 0, "no shared memory");
     far = mmap(0, sizeof *far, PROT_READ | PROT_WRITE, MAP_SHARED, fd, 0);
     must(far != MAP_FAILED, "no shared memory");
+    int there[2], back[2];
+    must(pipe2(there, O_CLOEXEC) == 0 && pipe2(back, O_CLOEXEC) == 0, "no pipe");
+    asks = there[1];
+    answers = back[0];
     char text[16];
     snprintf(text, sizeof text, "%d", fd);
-    other = fork();
-    must(other >= 0, "no process");
-    if (other == 0) {
+    pid_t child = fork();
+    must(child >= 0, "no process");
+    if (child == 0) {
+        dup2(there[0], 0);
+        dup2(back[1], 1);
         execl(RUNNER, RUNNER, PROGRAM, text, (char *)0);
         _exit(2);
     }
+    close(there[0]);
+    close(back[1]);
 }
 
 /* What is lent to a call: `altered` where the call may change it. */
@@ -97,12 +104,8 @@ static uint64_t call(enum function function, const uint64_t numbers[MOST_NUMBERS
     far->function = function;
     memcpy(far->numbers, numbers, sizeof far->numbers);
     send(lent, count);
-    __atomic_store_n(&far->turn, THERE, __ATOMIC_RELEASE);
-    for (int i = 1; __atomic_load_n(&far->turn, __ATOMIC_ACQUIRE) == THERE; i = (i + 1) % 1000)
-        if (i == 0) {
-            must(waitpid(other, 0, WNOHANG) == 0, "the other process ended");
-            sched_yield();
-        }
+    char byte = 0;
+    must(write(asks, &byte, 1) == 1 && read(answers, &byte, 1) == 1, "the other process ended");
     receive(lent, count);
     return far->answer;
 }

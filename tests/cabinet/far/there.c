@@ -1,5 +1,5 @@
-/* There: makes the calls that the other process asks for, with the library. Its argument is the descriptor of the shared memory. */
-#include <sched.h>
+/* There: makes the calls that the other process asks for, with the library. Its argument is the descriptor of the shared memory; the
+   pipes are its standard input and output. */
 #include <stdlib.h>
 #include <sys/mman.h>
 #include <unistd.h>
@@ -51,16 +51,14 @@ static uint64_t answer(void)
 
 int main(int argc, char **argv)
 {
-    pid_t other = getppid();
+    char byte;
     far = mmap(0, sizeof *far, PROT_READ | PROT_WRITE, MAP_SHARED, argc > 1 ? atoi(argv[1]) : -1, 0);
     if (far == MAP_FAILED)
         return 2;
-    while (getppid() == other) {
-        for (int i = 0; i < 1000 && __atomic_load_n(&far->turn, __ATOMIC_ACQUIRE) == THERE; i++) {
-            far->answer = answer();
-            __atomic_store_n(&far->turn, HERE, __ATOMIC_RELEASE);
-        }
-        sched_yield();
+    while (read(0, &byte, 1) == 1) {
+        far->answer = answer();
+        if (write(1, &byte, 1) != 1)
+            return 2;
     }
     return 0;
 }
