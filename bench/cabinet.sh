@@ -1,8 +1,11 @@
 #!/usr/bin/env bash
-# What a call of the static library costs beside the independent implementation in Rust (tests/reference) on its own structs, both built
-# for release and measured turn by turn in one run, as a table of ratios. Not in the gate. The library is CABINET_LIB, or
-# target/staticlib/libcabinet.a.
+# bench/cabinet.sh [--equal]: what a call of the static library costs beside the independent implementation in Rust (tests/reference) on
+# its own structs, both built for release and measured turn by turn in one run, as a table of ratios; or only whether both give the same
+# words and text, as the gate asks. The library is CABINET_LIB, or the one that tests/cabinet-library prints.
 set -euo pipefail
-cd "$(dirname "$0")/../tests/cabinet"
+root=$(cd "$(dirname "$0")/.." && pwd)
+CABINET_LIB=${CABINET_LIB:-$("$root/tests/cabinet-library")}
+export CABINET_LIB
+cd "$root/tests/cabinet"
 cargo build --release --offline --quiet
-exec target/release/bench
+exec target/release/bench "$@"

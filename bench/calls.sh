@@ -1,12 +1,17 @@
 #!/usr/bin/env bash
-# bench/calls.sh NAME.c .. [-- WORDS]: compiles these C files with the static library of the proved calls, at each compiler and level, and runs
-# each program, which is given WORDS. Not in the gate. The library is proved and built where it is missing or older than its sources.
+# bench/calls.sh [--equal] NAME.c .. [-- WORDS]: compiles these C files with the static library of the proved calls, at each compiler and
+# level, and runs each program, which is given WORDS, and --equal before them where it is given here: the program then times nothing and
+# sees that the results are equal. The library is proved and built where it is missing or older than its sources.
 set -euo pipefail
 here=$(cd "$(dirname "$0")" && pwd)
-library=$here/../target/staticlib/libcabinet.a
-if [ ! -f "$library" ] || [ -n "$(find "$here/../crates" "$here/../crates.txt" -newer "$library" -print -quit)" ]; then
-    (cd "$here/.." && rt staticlib cabinet >&2)
+root=$here/..
+equal=()
+if [ "${1:-}" = --equal ]; then
+    equal=(--equal)
+    shift
 fi
+library=$root/target/staticlib/libcabinet.a
+"$root/tests/cabinet-library" >/dev/null
 sources=()
 while [ $# -gt 0 ] && [ "$1" != -- ]; do
     sources+=("$here/$1")
@@ -15,11 +20,14 @@ done
 [ $# -eq 0 ] || shift
 work=$(mktemp -d)
 trap 'rm -rf "$work"' EXIT
-for cc in gcc clang; do
-    command -v $cc >/dev/null || continue
+compilers=(gcc)
+! command -v clang >/dev/null || compilers+=(clang)
+[ "$(uname -m)" = x86_64 ] || compilers=("the toolchain's clang")
+for cc in "${compilers[@]}"; do
     for o in -O2 -O3; do
-        $cc $o -Wall -Wextra -I"$here/../include" "${sources[@]}" "$library" -o "$work/calls"
-        printf '%s %s\n' $cc $o
-        "$work/calls" "$@"
+        CC=$cc "$root/tools/x86-64-cc" $o -Wall -Wextra -I"$root/include" "${sources[@]}" "$library" -o "$work/calls"
+        printf '%s %s: ' "$cc" $o
+        [ ${#equal[@]} -gt 0 ] || echo
+        "$root/tools/x86-64" "$work/calls" "${equal[@]}" "$@"
     done
 done

@@ -48,6 +48,9 @@ static inline double now(void)
     return t.tv_sec * 1e9 + t.tv_nsec;
 }
 
+/* Whether the program is only to see that the results are equal, and to time nothing. */
+static inline int only_equal(int argc, char **argv) { return argc > 1 && !strcmp(argv[1], "--equal"); }
+
 static inline void must(int holds, const char *what)
 {
     if (!holds) {

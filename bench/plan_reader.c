@@ -1,5 +1,5 @@
-/* Reading a plan of 4,096 arrivals: the proved reader beside a plain C loop that does the same, in one run, turn by turn.
-   Prints the shortest turn of each in nanoseconds, and their ratio. */
+/* Reading a plan of 4,096 arrivals: the proved reader beside a plain C loop that does the same, in one run, turn by turn. Prints the
+   shortest turn of each in nanoseconds, and their ratio. Given --equal and plans, sees that both answer the same number to each. */
 #include <stdint.h>
 #include <stdio.h>
 #include <stdlib.h>
@@ -29,7 +29,8 @@ __attribute__((noinline)) static uint32_t plain_number(const uint8_t *plan, size
     if (sum)
         return 14;
     size_t c = word(plan + 12), k = word(plan + 20), a = word(plan + 28), start = 40 + 4 * c + 16 * k;
-    if (c > 8 || k > 32 || a > 4096 || word(plan + 16) != 40 || word(plan + 24) != 40 + 4 * c || word(plan + 32) != start || size != start + 12 * a)
+    if (c > 8 || k > 32 || a > 4096 || word(plan + 16) != 40 || word(plan + 24) != 40 + 4 * c ||
+        word(plan + 32) != start || size != start + 12 * a)
         return 15;
     uint32_t low = 0;
     for (size_t i = 0; i < a; i++) {
@@ -56,13 +57,41 @@ static double turn(uint32_t (*number)(const uint8_t *, size_t), const uint8_t *p
     return ((b.tv_sec - a.tv_sec) * 1e9 + (b.tv_nsec - a.tv_nsec)) / 100;
 }
 
+static uint8_t plan[70000];
+
+static size_t load(const char *path)
+{
+    FILE *f = fopen(path, "rb");
+    if (!f) {
+        fprintf(stderr, "%s: cannot be read\n", path);
+        exit(2);
+    }
+    size_t size = fread(plan, 1, sizeof plan, f);
+    fclose(f);
+    return size;
+}
+
+static int compare(int count, char **paths)
+{
+    for (int i = 0; i < count; i++) {
+        size_t size = load(paths[i]);
+        uint32_t proved = proved_number(plan, size), plain = plain_number(plan, size);
+        if (proved != plain) {
+            fprintf(stderr, "%s: proved %u, plain C %u\n", paths[i], proved, plain);
+            return 1;
+        }
+    }
+    printf("plan reader: the same numbers on %d plans\n", count);
+    return 0;
+}
+
 int main(int argc, char **argv)
 {
-    static uint8_t plan[70000];
-    FILE *f = argc > 1 ? fopen(argv[1], "rb") : 0;
-    if (!f)
+    if (argc > 2 && !strcmp(argv[1], "--equal"))
+        return compare(argc - 2, argv + 2);
+    if (argc != 2)
         return 2;
-    size_t size = fread(plan, 1, sizeof plan, f);
+    size_t size = load(argv[1]);
     double proved = 1e18, plain = 1e18;
     for (int i = 0; i < 2000; i++) {
         double t = turn(proved_number, plan, size);

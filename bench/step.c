@@ -1,10 +1,13 @@
 /* A step and an offer, proved and in plain C, in one run, turn by turn: sixteen calls one after another from an idle box, and from one in
-   which 100 or 1,000 packets wait. Prints the shortest turn of each for one call in nanoseconds, their ratio, and the share of the test of
-   soundness, which is measured by itself on the same words. Then steps of the idle box early, in the middle and at the end of the counter's
-   range, to see that their time does not depend on the counter. */
+   which 100 or 1,000 packets wait. Prints the shortest turn of each for one call in nanoseconds, their ratio, and the share of the test
+   of soundness, which is measured by itself on the same words. Then steps of the idle box early, in the middle and at the end of the
+   counter's range, to see that their time does not depend on the counter. Given --equal, makes one turn of each and sees that the words
+   are the same, and that the two tests of soundness agree on each word of the boxes damaged in turn. */
 #include "plain_box.h"
 
-enum { CALLS = 16, TURNS = 5000, COUNTER = 204 };
+enum { CALLS = 16, COUNTER = 204 };
+
+static int turns = 5000, equal;
 
 static uint32_t before[WORDS], ws[WORDS], other[WORDS];
 
@@ -43,11 +46,13 @@ static void measure(numbered *a, numbered *b, double shortest[2])
 static void report(uint32_t waiting)
 {
     double step[2] = {1e18, 1e18}, offer[2] = {1e18, 1e18}, sound[2] = {1e18, 1e18};
-    for (int i = 0; i < TURNS; i++) {
+    for (int i = 0; i < turns; i++) {
         measure(proved_step, plain_steps, step);
         measure(proved_offer, plain_offers, offer);
         measure(proved_sound, plain_sounds, sound);
     }
+    if (equal)
+        return;
     printf("  %4u waiting: step proved %.0f ns, plain C %.0f ns, ratio %.2f; ", waiting, step[0], step[1], step[0] / step[1]);
     printf("offer proved %.0f ns, plain C %.0f ns, ratio %.2f; ", offer[0], offer[1], offer[0] / offer[1]);
     printf("soundness proved %.0f ns, plain C %.0f ns, ratio %.2f, ", sound[0], sound[1], sound[0] / sound[1]);
@@ -69,25 +74,44 @@ static void report_counters(void)
     static const uint32_t counters[3] = {0, 1000000, 3999999000};
     double step[3][2] = {{1e18, 1e18}, {1e18, 1e18}, {1e18, 1e18}};
     idle_box();
-    for (int i = 0; i < TURNS; i++)
+    for (int i = 0; i < turns; i++)
         for (int k = 0; k < 3; k++) {
             before[COUNTER] = counters[k];
             measure(proved_step, plain_steps, step[k]);
         }
-    for (int k = 0; k < 3; k++)
+    for (int k = 0; k < 3 && !equal; k++)
         printf("  idle at counter %10u: step proved %.0f ns, plain C %.0f ns, ratio %.2f\n", counters[k], step[k][0], step[k][1],
                step[k][0] / step[k][1]);
 }
 
-int main(void)
+/* Both tests of soundness on the box with each word damaged in turn. */
+static void compare_soundness(void)
 {
+    for (size_t i = 0; i < WORDS; i++) {
+        uint32_t kept = before[i], damage[4] = {0, kept + 1, kept - 1, UINT32_MAX};
+        for (int k = 0; k < 4; k++) {
+            before[i] = damage[k];
+            must(box_sound(before, WORDS) == plain_sound(before, WORDS), "the tests of soundness differ");
+        }
+        before[i] = kept;
+    }
+}
+
+int main(int argc, char **argv)
+{
+    equal = only_equal(argc, argv);
+    turns = equal ? 1 : turns;
     static const uint32_t waiting[3] = {0, 100, 1000};
     for (int k = 0; k < 3; k++) {
         idle_box();
         for (uint32_t i = 0; i < waiting[k]; i++)
             must(box_offer(before, WORDS, 1 + i % 16, 1) == 0, "an offer is refused");
         report(waiting[k]);
+        if (equal)
+            compare_soundness();
     }
     report_counters();
+    if (equal)
+        puts("step, offer, soundness: the same words and verdicts");
     return 0;
 }

@@ -1,7 +1,7 @@
-/* The whole run of document 01 in plain, unverified C: a plan on standard input, the lines of its run on standard output, byte for byte those of
-   `gateway`. It is written as one would without a proof: its own structs, linked queues by rank, a word of occupied queues, the allowance as the
-   one number of a virtual schedule, and no test of soundness. It steps through every slot, idle or not, as `gateway` does: skipping idle
-   stretches would compare another way to run a plan and not the same one. */
+/* The whole run of document 01 in plain, unverified C: a plan on standard input, the lines of its run on standard output, byte for byte
+   those of `gateway`. It is written as one would without a proof: its own structs, linked queues by rank, a word of occupied queues, the
+   allowance as the one number of a virtual schedule, and no test of soundness. It steps through every slot, idle or not, as `gateway`
+   does: skipping idle stretches would compare another way to run a plan and not the same one. */
 #include <stdint.h>
 #include <stdio.h>
 #include <string.h>
@@ -115,7 +115,8 @@ static uint32_t read_plan(struct plan *p, const uint8_t *bytes, size_t size)
     if (p->classes > 8 || p->connections > MOST_CONNECTIONS || p->arrivals > 4096)
         return 15;
     uint32_t connections = HEADER + 4 * p->classes, arrivals = connections + 16 * p->connections;
-    if (word(bytes + 16) != HEADER || word(bytes + 24) != connections || word(bytes + 32) != arrivals || size != arrivals + 12 * p->arrivals)
+    if (word(bytes + 16) != HEADER || word(bytes + 24) != connections || word(bytes + 32) != arrivals ||
+        size != arrivals + 12 * p->arrivals)
         return 15;
     p->class = bytes + HEADER;
     p->connection = bytes + connections;
@@ -156,8 +157,8 @@ static uint32_t open_box(const struct plan *p)
 
 static int off_range(const struct connection *c)
 {
-    return !within(1, c->class, box.classes) || !within(1, c->longest, 64) || !within(1, c->burst, 64) || !within(1, c->period, box.cycle) ||
-           box.cycle % c->period;
+    return !within(1, c->class, box.classes) || !within(1, c->longest, 64) || !within(1, c->burst, 64) ||
+           !within(1, c->period, box.cycle) || box.cycle % c->period;
 }
 
 static uint32_t rate(uint32_t count)
@@ -168,8 +169,8 @@ static uint32_t rate(uint32_t count)
     return sum;
 }
 
-/* Whether (11) or (12) fails at t. A connection whose bound exceeds t + D adds nothing to the sum yet, and class 1 adds from d1 on, so within
-   the range of (12) each connection is either in the sum or in the way. */
+/* Whether (11) or (12) fails at t. A connection whose bound exceeds t + D adds nothing to the sum yet, and class 1 adds from d1 on, so
+   within the range of (12) each connection is either in the sum or in the way. */
 static int fails_at(uint32_t t, uint32_t count, int twelve)
 {
     uint32_t sum = 0, way = 0;

@@ -4,8 +4,8 @@
     bench/whole_run.py plans DIR                     writes DIR/NAME.plan for each plan
     bench/whole_run.py times ROUNDS DIR PROGRAM...   a table: each program on each plan, and the first program's time over each other one's
 
-A time is that of a whole process, from its start to its end, with the plan as a file and the lines to /dev/null. The programs take turns, so that
-what else the machine does falls on all of them."""
+A time is that of a whole process, from its start to its end, with the plan as a file and the lines to /dev/null. The programs take turns,
+so that what else the machine does falls on all of them."""
 import os
 import statistics
 import subprocess
@@ -35,8 +35,8 @@ def idle():
 
 
 def busy():
-    """32 connections of four classes at the whole rate of the link: first all bursts at once, then a packet of each after each period. So the
-    link never rests, and over 400 packets wait in queues of all tags until the arrivals end."""
+    """32 connections of four classes at the whole rate of the link: first all bursts at once, then a packet of each after each period. So
+    the link never rests, and over 400 packets wait in queues of all tags until the arrivals end."""
     connections = [(1 + i % 4, 1, (8, 16, 16, 16)[i % 4], 32) for i in range(32)]
     first = [(0, 1 + i, 1) for i, c in enumerate(connections) for _ in range(c[2])]
     later = [(32 * (1 + i // 32), 1 + i % 32, 1) for i in range(ARRIVALS - len(first))]
@@ -81,7 +81,8 @@ def measure(programs, plan, rounds):
 def ended(program, plan):
     """Connections admitted, slots and packets accepted, as the program's lines tell."""
     with open(plan, "rb") as file:
-        lines = [line.split() for line in subprocess.run([program], stdin=file, capture_output=True, check=True).stdout.decode().splitlines()]
+        text = subprocess.run([program], stdin=file, capture_output=True, check=True).stdout.decode()
+    lines = [line.split() for line in text.splitlines()]
     admitted = sum(line[0] == "ADMIT" and line[2] == "0" for line in lines)
     slots, accepted = lines[-1][1:3] if lines[-1][0] == "END" else ("-", "-")
     return [str(admitted), slots, accepted]

@@ -1,6 +1,7 @@
 #!/usr/bin/env bash
-# bench/whole_run.sh [ROUNDS]: what the program costs beside plain C that makes the same run (whole_run.c), as a ratio measured in one run. Not in
-# the gate. First both must print the same bytes, on the plans that are timed, those of examples/ and those of crates/run_vectors/data.
+# bench/whole_run.sh [ROUNDS | --equal]: what the program costs beside plain C that makes the same run (whole_run.c), as a ratio measured
+# in one run. First both must print the same bytes, on the plans that are timed, those of examples/ and the stored ones; given --equal, as
+# in the gate, that is all.
 set -euo pipefail
 here=$(cd "$(dirname "$0")" && pwd)
 root=$here/..
@@ -16,7 +17,7 @@ mkdir "$work/timed" "$work/other"
 for text in "$root"/examples/*.txt; do
     "$root/tools/plan_text.py" to-bytes "$text" >"$work/other/$(basename "$text" .txt).plan"
 done
-cp "$root"/crates/run_vectors/data/*.plan "$work/other/"
+cp "$root"/tests/stored/runs/*.plan "$work/other/"
 
 programs=()
 for cc in gcc clang; do
@@ -28,11 +29,12 @@ done
 
 count=0
 for plan in "$work"/timed/*.plan "$work"/other/*.plan; do
-    "$gateway" <"$plan" >"$work/lines"
+    "$root/tools/x86-64" "$gateway" <"$plan" >"$work/lines"
     for program in "${programs[@]}"; do
         "$program" <"$plan" | cmp - "$work/lines" || { echo "whole_run.sh: $program differs on $plan" >&2; exit 1; }
     done
     count=$((count + 1))
 done
-echo "The same bytes on $count plans."
+echo "whole run: the same bytes on $count plans"
+[ "$rounds" != --equal ] || exit 0
 "$here/whole_run.py" times "$rounds" "$work/timed" "$gateway" "${programs[@]}"

@@ -1,8 +1,8 @@
 #!/usr/bin/env python3
-"""make_admission_vectors.py: the calls that the program `multiplexer_runs` makes on lent words. Writes the files of its data/ and its
-stdout: `sides`, P1 to P10 of document 01, whose answers stand here by hand; `numbers`, the answers that no plan of at most 32 admissions
-can give, by hand as well; `tables`, random tables of admissions, whose answers and every t come from the independent program in
-tests/reference, which is built first. A call is a row of five words: its kind, and four numbers.
+"""make_admission_vectors.py: the calls that `cabinet-stored` makes on lent words. Writes the files of tests/stored/calls: `sides`, P1 to
+P10 of document 01, whose answers stand here by hand; `numbers`, the answers that no plan of at most 32 admissions can give, by hand as
+well; `tables`, random tables of admissions, whose answers and every t come from the independent program in tests/reference, which is
+built first; and `lines`, the answers. A call is a row of five words: its kind, and four numbers.
 
     tests/make_admission_vectors.py            write them
     tests/make_admission_vectors.py --check    write nothing; exit status 1 where a file differs from what would be written"""
@@ -16,8 +16,9 @@ ROOT = os.path.dirname(HERE)
 sys.path.insert(0, os.path.join(ROOT, "tools"))
 from plan_reference import pack, write  # noqa: E402
 from make_run_vectors import build_reference, lines_of  # noqa: E402
+from stored_files import settle  # noqa: E402
 
-CRATE = "crates/multiplexer_runs"
+STORED = "tests/stored/calls"
 HUGE = 4294967295
 TABLES = 240
 WORDS = 4371
@@ -168,7 +169,8 @@ def refusals(c):
 
 
 def blocked(c):
-    """11: ten packets of one slot of class 1, whose bound is 4, by a burst written into the words: the step that would turn them away is refused."""
+    """11: ten packets of one slot of class 1, whose bound is 4, by a burst written into the words: the step that would turn them away is
+    refused."""
     c.open(4, 8, [1, 2])
     c.admit((1, 1, 1, 4), 0, 1)
     c.word(14, 10)
@@ -255,36 +257,18 @@ def expected():
     """Every file to be written, by its path from the root, and what the tables give."""
     some, seen = tables(build_reference())
     lists = [sides(), numbers(), some]
-    files = {"%s/data/%s" % (CRATE, c.lines[0]): c.data() for c in lists}
+    files = {"%s/%s" % (STORED, c.lines[0]): c.data() for c in lists}
     assert sum(map(len, files.values())) <= 100000
-    files["%s/stdout" % CRATE] = "".join(c.text() for c in lists).encode()
+    files[STORED + "/lines"] = "".join(c.text() for c in lists).encode()
     return files, seen
-
-
-def stands(path):
-    """The bytes of the file at this path from the root, or None."""
-    try:
-        with open(os.path.join(ROOT, path), "rb") as f:
-            return f.read()
-    except FileNotFoundError:
-        return None
 
 
 def main(words):
     files, seen = expected()
-    wrong = sorted(path for path in files if stands(path) != files[path])
-    if words == ["--check"]:
-        for path in wrong:
-            print("differs: %s" % path)
-        print("admission vectors: %d files, %d differ" % (len(files), len(wrong)))
-        return 1 if wrong else 0
-    os.makedirs(os.path.join(ROOT, CRATE, "data"), exist_ok=True)
-    for path, data in files.items():
-        with open(os.path.join(ROOT, path), "wb") as out:
-            out.write(data)
-    for answer in sorted(seen):
-        print("%d tables: answer %d, %d times, %d different t" % (TABLES, answer, len(seen[answer]), len(set(seen[answer]))))
-    return 0
+    if not words:
+        for answer in sorted(seen):
+            print("%d tables: answer %d, %d times, %d different t" % (TABLES, answer, len(seen[answer]), len(set(seen[answer]))))
+    return settle("admission vectors", files, [STORED + "/*"], words)
 
 
 if __name__ == "__main__":

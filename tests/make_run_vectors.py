@@ -1,7 +1,8 @@
 #!/usr/bin/env python3
-"""make_run_vectors.py: the vectors of whole runs. Writes the plans of crates/run_vectors/data, 01.plan upward, and the expected
-crates/run_vectors/stdout: for each plan in order a line `== NN` and the lines of its run. Writes examples/*.lines too. The lines come from
-the independent program in tests/reference, which is built first. Every answer number that a plan can give must be among them.
+"""make_run_vectors.py: the whole runs that the built program must make. Writes the plans of tests/stored/runs, 01.plan upward, and its
+file `lines`: for each plan in order a line `== NN` and the lines of its run. Writes examples/*.lines too, and the worked run of document
+01 on which `rt` runs the program. The lines come from the independent program in tests/reference, which is built first. Every answer
+number that a plan can give must be among them.
 
     tests/make_run_vectors.py            write them, and say which plan is which
     tests/make_run_vectors.py --check    write nothing; exit status 1 where a file differs from what would be written"""
@@ -16,7 +17,10 @@ HERE = os.path.dirname(os.path.abspath(__file__))
 ROOT = os.path.dirname(HERE)
 sys.path.insert(0, os.path.join(ROOT, "tools"))
 from plan_reference import change, pack, resum, write  # noqa: E402
+from stored_files import settle  # noqa: E402
 import plan_text  # noqa: E402
+
+STORED = "tests/stored/runs"
 
 MOST_PLANS = 60
 MOST_BYTES = 2000000
@@ -76,7 +80,8 @@ def either_side():
     yield "P8", write(4, 8, [1, 2], [one], [(3, 1, 1), (4, 1, 1)])
     yield "P9, class 2 at 3 and class 1 at 4", write(4, 8, [1, 2], third, [(3, 3, 2), (3, 2, 1), (4, 1, 1)])
     yield "P9, both at 3", write(4, 8, [1, 2], third, [(2, 3, 2), (3, 2, 1), (3, 1, 1)])
-    yield "P10, none of them charged", write(4, 8, [1, 2], [(1, 2, 2, 8)], [(0, 1, 0), (0, 1, 3), (0, 1, HUGE), (0, 1, 1), (0, 1, 2), (0, 1, 2)])
+    yield "P10, none of them charged", write(
+        4, 8, [1, 2], [(1, 2, 2, 8)], [(0, 1, 0), (0, 1, 3), (0, 1, HUGE), (0, 1, 1), (0, 1, 2), (0, 1, 2)])
 
 
 def first_slots():
@@ -99,14 +104,18 @@ def whole_runs():
         4, 8, [1, 2], [(HUGE,) * 4, (0, 1, 1, 8), (1, 0, 1, 8), (1, 1, 0, 8), (1, 1, 65, 8), (1, HUGE, HUGE, 8), (1, 1, 1, 8)],
         [(0, HUGE, HUGE), (0, 7, HUGE), (0, 7, 1), (1, 6, 1)])
     yield "D 1, eight classes, factors to 63", write(
-        1, 60, [9, 13, 20, 27, 33, 40, 50, 63], [(8, 7, 1, 60), (1, 1, 2, 30), (2, 2, 1, 20), (8, 6, 1, 60), (7, 4, 1, 60), (4, 3, 1, 30), (8, 5, 2, 60)],
-        [(0, 7, 2), (0, 7, 5), (0, 1, 7), (1, 5, 4), (2, 3, 2), (2, 2, 1), (2, 6, 3), (3, 2, 1), (3, 2, 1), (7, 4, 1), (32, 2, 1), (33, 6, 2), (60, 1, 7)])
-    yield "D 16, factor 63", write(16, 4096, [1, 63], [(1, 8, 1, 64), (2, 8, 30, 512)], [(s // 30 * 7, 2 - s % 2, 1 + s % 8) for s in range(90)])
+        1, 60, [9, 13, 20, 27, 33, 40, 50, 63],
+        [(8, 7, 1, 60), (1, 1, 2, 30), (2, 2, 1, 20), (8, 6, 1, 60), (7, 4, 1, 60), (4, 3, 1, 30), (8, 5, 2, 60)],
+        [(0, 7, 2), (0, 7, 5), (0, 1, 7), (1, 5, 4), (2, 3, 2), (2, 2, 1), (2, 6, 3), (3, 2, 1),
+         (3, 2, 1), (7, 4, 1), (32, 2, 1), (33, 6, 2), (60, 1, 7)])
+    yield "D 16, factor 63", write(
+        16, 4096, [1, 63], [(1, 8, 1, 64), (2, 8, 30, 512)], [(s // 30 * 7, 2 - s % 2, 1 + s % 8) for s in range(90)])
     yield "the store full, the last leaves on its bound", write(
         256, 4096, [4], [(1, 1, 64, 4096)] * 16, [(0, 1 + i % 16, 1) for i in range(1024)] + [(0, 16, 1), (1, 1, 1), (4096, 1, 1)])
     yield "32 connections stand, all on one slot", write(
         32, 64, [1, 2], [(1, 1, 1, 64)] * 32, [(31, 32 - i, 1) for i in range(32)] + [(94, 1, 1), (95, 1, 1)])
-    yield "4,096 arrivals on one slot", write(128, 4096, [1, 8], [(2, 1, 64, 64), (1, 2, 8, 256)], [(3, 1 + i % 3, 1 + i % 2) for i in range(4096)])
+    yield "4,096 arrivals on one slot", write(
+        128, 4096, [1, 8], [(2, 1, 64, 64), (1, 2, 8, 256)], [(3, 1 + i % 3, 1 + i % 2) for i in range(4096)])
     yield "4,096 arrivals", write(
         16, 240, [1, 2, 4, 8], [(1, 1, 2, 8), (2, 2, 3, 16), (3, 3, 2, 24), (4, 4, 4, 40), (1, 1, 1, 48)],
         [(i * 3 // 4, 1 + i * 7 % 11 % 6, 1 + i % 4) for i in range(4096)])
@@ -172,44 +181,25 @@ def expected():
     program = build_reference()
     files, names, text = {}, [], b""
     for n, (name, plan) in enumerate(plans(), 1):
-        files["crates/run_vectors/data/%02d.plan" % n] = plan
+        files["%s/%02d.plan" % (STORED, n)] = plan
         names.append("%02d %s" % (n, name))
         text += b"== %02d\n" % n + lines_of(program, plan)
-    files["crates/run_vectors/stdout"] = text
+    files[STORED + "/lines"] = text
     assert 45 <= len(names) <= MOST_PLANS and sum(map(len, files.values())) <= MOST_BYTES
     assert answers(text, "REFUSED", 1) == REFUSALS and answers(text, "STOP", 1) == set()
     assert answers(text, "ADMIT", 2) == ADMISSIONS and answers(text, "OFFER", 2) == OFFERS
+    files["crates/gateway/stdin"] = WORKED
+    files["crates/gateway/stdout"] = lines_of(program, WORKED)
     for name, plan in examples():
         files["examples/%s.lines" % name] = lines_of(program, plan)
     return files, names
 
 
-def present():
-    """The files that stand there now, by their paths from the root."""
-    found = {}
-    for pattern in ("crates/run_vectors/data/*", "crates/run_vectors/stdout", "examples/*.lines"):
-        for path in glob.glob(os.path.join(ROOT, pattern)):
-            found[os.path.relpath(path, ROOT)] = plan_text.read(path)
-    return found
-
-
 def main(words):
     files, names = expected()
-    before = present()
-    wrong = sorted(path for path in set(files) | set(before) if files.get(path) != before.get(path))
-    if words == ["--check"]:
-        for path in wrong:
-            print("differs: %s" % path)
-        print("run vectors: %d files, %d differ" % (len(files), len(wrong)))
-        return 1 if wrong else 0
-    os.makedirs(os.path.join(ROOT, "crates", "run_vectors", "data"), exist_ok=True)
-    for path in set(before) - set(files):
-        os.remove(os.path.join(ROOT, path))
-    for path, data in files.items():
-        with open(os.path.join(ROOT, path), "wb") as out:
-            out.write(data)
-    print("\n".join(names))
-    return 0
+    if not words:
+        print("\n".join(names))
+    return settle("run vectors", files, [STORED + "/*", "examples/*.lines", "crates/gateway/std*"], words)
 
 
 if __name__ == "__main__":

@@ -1,8 +1,17 @@
 #!/usr/bin/env python3
-"""plan_reference.py: an independent reader and writer of plan files, by document 01 alone. Writes the plans of crates/plan_vectors/data and
-the expected crates/plan_vectors/stdout; src/main.rt of that crate names the plans in the same order. It shares no code with the crates."""
-import os
+"""plan_reference.py: an independent reader and writer of plan files, by document 01 alone. It shares no code with the crates. Writes the
+plans of tests/stored/plans and its file `lines`: what `cabinet-stored` finds in each plan, and what the writer answers to the tables that
+it lends.
+
+    tests/plan_reference.py            write them
+    tests/plan_reference.py --check    write nothing; exit status 1 where a file differs from what would be written"""
 import struct
+import sys
+
+sys.dont_write_bytecode = True
+from stored_files import settle  # noqa: E402
+
+STORED = "tests/stored/plans"
 
 LIMIT = 1 << 32
 
@@ -63,7 +72,8 @@ def plans():
     worked = write(4, 8, [1, 2], [(1, 1, 1, 4), (2, 3, 1, 8)], [(0, 2, 3), (1, 1, 1), (2, 1, 1), (5, 1, 1), (8, 2, 2)])
     bare = write(4, 8, [], [], [])
     same = write(4, 8, [1], [(1, 1, 1, 4)], [(3, 1, 1), (3, 1, 2), (3, 1, 3), (7, 1, 1)])
-    full = write(256, 4096, range(1, 9), [(1 + i % 8, 64, 64, 4096) for i in range(32)], [(i // 2000, 1 + i % 32, 1 + i % 64) for i in range(4096)])
+    connections = [(1 + i % 8, 64, 64, 4096) for i in range(32)]
+    full = write(256, 4096, range(1, 9), connections, [(i // 2000, 1 + i % 32, 1 + i % 64) for i in range(4096)])
     yield "worked", worked
     yield "bare", bare
     yield "same", same
@@ -114,7 +124,7 @@ def writing(factors, connections, arrivals, room):
 
 
 def tables():
-    """What the writer is lent, in the order in which src/main.rt lends it."""
+    """What the writer is lent, in the order in which `cabinet-stored` lends it."""
     f, c, a, falling = [1] * 2, [1] * 4, [1] * 3, [5, 1, 1, 4, 1, 1]
     yield [1] * 9, c, a, 60000
     yield f, [1] * 5, a, 60000
@@ -132,7 +142,7 @@ def tables():
 
 
 def lines(name, data):
-    """What the program prints for one plan."""
+    """What is found in one plan."""
     number, contents = read(data)
     if number:
         return ["%s %d" % (name, number)]
@@ -151,20 +161,17 @@ def lines(name, data):
     return out
 
 
-def main():
-    folder = os.path.join(os.path.dirname(os.path.abspath(__file__)), "..", "crates", "plan_vectors")
-    os.makedirs(os.path.join(folder, "data"), exist_ok=True)
-    text = []
+def main(words):
+    files, text = {}, []
     for name, data in plans():
-        with open(os.path.join(folder, "data", name), "wb") as out:
-            out.write(data)
+        files["%s/%s" % (STORED, name)] = data
         text += lines(name, data)
     for lent in tables():
         number, size = writing(*lent)
         text += ["WRITTEN %d" % number, "KEPT"] if number else ["WRITTEN 0 %d" % size]
-    with open(os.path.join(folder, "stdout"), "w") as out:
-        out.write("".join(line + "\n" for line in text))
+    files[STORED + "/lines"] = "".join(line + "\n" for line in text).encode()
+    return settle("plan vectors", files, [STORED + "/*"], words)
 
 
 if __name__ == "__main__":
-    main()
+    sys.exit(main(sys.argv[1:]))

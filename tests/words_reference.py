@@ -1,12 +1,18 @@
 #!/usr/bin/env python3
-"""The box in words, written again from docs/LAYOUT.md and document 01 and from nothing else: an independent test of soundness.
+"""The box in words, written again from docs/LAYOUT.md and document 01 and from nothing else: an independent test of soundness. Writes the
+files of tests/stored/damage: `state`, the words of a rich sound state up to its last packet, and `lines`, the verdicts on its damage: for
+each word of the state, and five after it, a digit, the verdicts on the word set to 0, plus one, minus one (both within 32 bits) and to
+4,294,967,295 as bits 1, 2, 4 and 8.
 
-words_reference.py state     the words of a rich sound state, as they stand in the program `words_damage`
-words_reference.py verdicts  what `words_damage` must print: for each word of the state one digit, the verdicts on the word
-                             set to 0, plus one, minus one (both within 32 bits) and to 4,294,967,295 as bits 1, 2, 4 and 8
-"""
+    tests/words_reference.py            write them
+    tests/words_reference.py --check    write nothing; exit status 1 where a file differs from what would be written"""
 import sys
 
+sys.dont_write_bytecode = True
+from plan_reference import pack  # noqa: E402
+from stored_files import settle  # noqa: E402
+
+STORED = "tests/stored/damage"
 WORDS = 4371
 TOP = 2 ** 32 - 1
 
@@ -78,7 +84,8 @@ def sound(ws):
 
 
 def rich_state():
-    """D 4, M 24, factors 1 3 5; four connections; counter 250; a packet on the link; packets in several queues, whose places wrap round from 63 to 0."""
+    """D 4, M 24, factors 1 3 5; four connections; counter 250; a packet on the link; packets in several queues, whose places wrap round
+    from 63 to 0."""
     ws = [0] * WORDS
     ws[0:3] = [4, 24, 3]
     ws[3:6] = [1, 3, 5]
@@ -114,17 +121,14 @@ def digit(ws, i):
     return "0123456789abcdef"[bits]
 
 
-def main():
+def main(words):
     ws, end = rich_state()
     assert sound(ws), "the state is sound"
-    if sys.argv[1:] == ["state"]:
-        print(", ".join(str(w) for w in ws[:end]))
-    elif sys.argv[1:] == ["verdicts"]:
-        text = "".join(digit(ws, i) for i in range(end + 5))
-        for i in range(0, len(text), 64):
-            print(text[i:i + 64])
-    else:
-        sys.exit(__doc__)
+    text = "".join(digit(ws, i) for i in range(end + 5))
+    rows = [text[i:i + 64] + "\n" for i in range(0, len(text), 64)]
+    files = {STORED + "/state": pack(ws[:end]), STORED + "/lines": "".join(rows).encode()}
+    return settle("damaged states", files, [STORED + "/*"], words)
 
 
-main()
+if __name__ == "__main__":
+    sys.exit(main(sys.argv[1:]))

@@ -4,6 +4,7 @@
 use cabinet::boxes::{any_with_waiting, newcomer, offer, words_of, EDGES};
 use cabinet::call::Call;
 use cabinet::chance::Chance;
+use cabinet::share;
 use cabinet::trial::Trial;
 use reference::words::{ACCEPTED, BOX_WORDS, CONNECTIONS, COUNTER, LEFT, LENGTHS, ROWS, WAITING};
 use reference::Multiplexer;
@@ -15,7 +16,8 @@ const SHARE: u64 = 10;
 
 pub fn part(seed: u64) -> Result<String, String> {
     let mut sound = 0;
-    for state in 0..STATES {
+    let states = share::of(STATES);
+    for state in 0..states {
         let mut chance = Chance::new(seed, 2, state);
         let waiting = waiting_of(&mut chance, state);
         let mux = any_with_waiting(&mut chance, waiting);
@@ -29,7 +31,7 @@ pub fn part(seed: u64) -> Result<String, String> {
             trial.put(&words);
         }
     }
-    let all = STATES * DAMAGES;
+    let all = states * DAMAGES;
     if sound < all / SHARE || all - sound < all / SHARE {
         return Err(format!("of {all} damaged states {sound} were sound: one kind is hardly tried"));
     }

@@ -5,6 +5,7 @@ use cabinet::call::Call;
 use cabinet::calls;
 use cabinet::chance::Chance;
 use cabinet::plans::{put_word, solve_sum};
+use cabinet::share;
 use cabinet::tally::Tally;
 use cabinet::trial::Trial;
 use reference::words::BOX_WORDS;
@@ -21,7 +22,7 @@ pub fn part(seed: u64) -> Result<String, String> {
         return Err(format!("box_words gave {}", calls::box_words()));
     }
     let mut tally = Tally::default();
-    for state in 0..STATES {
+    for state in 0..share::of(STATES) {
         let failed = |what| format!("state {state}: {what}");
         let mut chance = Chance::new(seed, 6, state);
         cut_states(&mut chance, &mut tally).map_err(failed)?;

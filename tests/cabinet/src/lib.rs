@@ -6,5 +6,6 @@ pub mod calls;
 pub mod chance;
 pub mod guarded;
 pub mod plans;
+pub mod share;
 pub mod tally;
 pub mod trial;

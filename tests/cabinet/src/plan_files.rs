@@ -5,6 +5,7 @@ use cabinet::calls::{self, Answered};
 use cabinet::chance::Chance;
 use cabinet::guarded::Guarded;
 use cabinet::plans::{damaged, readable, LAST_ARRIVAL};
+use cabinet::share;
 use cabinet::tally::Tally;
 use reference::plan::{self, Plan};
 use reference::tables;
@@ -19,12 +20,13 @@ const HUGE: [usize; 8] = [usize::MAX, usize::MAX / 3 + 1, usize::MAX / 12 + 1, 1
 
 pub fn reading(seed: u64) -> Result<String, String> {
     let mut tally = Tally::default();
-    for n in 0..READ {
+    let plans = share::of(READ);
+    for n in 0..plans {
         let bytes = damaged(&mut Chance::new(seed, 3, n));
         let number = read(&bytes).map_err(|what| format!("plan {n}: {what}"))?;
         tally.count(number);
     }
-    Ok(format!("{READ} plans read, answers {}", tally.line(&[0, 13, 14, 15, 16], LEAST)?))
+    Ok(format!("{plans} plans read, answers {}", tally.line(&[0, 13, 14, 15, 16], share::of(LEAST))?))
 }
 
 /// Reads a plan and, where it is good, all entries of its tables and the arrivals of its slots.
@@ -100,7 +102,8 @@ where
 
 pub fn tables_of_any_bytes(seed: u64) -> Result<String, String> {
     let mut stretches = 0;
-    for n in 0..TABLES {
+    let tables = share::of(TABLES);
+    for n in 0..tables {
         let mut chance = Chance::new(seed, 4, n);
         let bytes = any_table(&mut chance);
         let lent = Guarded::new(&bytes);
@@ -113,10 +116,10 @@ pub fn tables_of_any_bytes(seed: u64) -> Result<String, String> {
         }
         stretches += found as u64;
     }
-    if stretches < LEAST {
+    if stretches < share::of(LEAST) {
         return Err(format!("only {stretches} stretches had an arrival"));
     }
-    Ok(format!("{TABLES} tables of any bytes, {stretches} stretches not empty"))
+    Ok(format!("{tables} tables of any bytes, {stretches} stretches not empty"))
 }
 
 /// Whether the stretch of the slot has an arrival.
@@ -157,7 +160,7 @@ struct Lent {
 
 pub fn writing(seed: u64) -> Result<String, String> {
     let mut tally = Tally::default();
-    for n in 0..WRITTEN {
+    for n in 0..share::of(WRITTEN) {
         let mut chance = Chance::new(seed, 5, n);
         let lent = any_lent(&mut chance);
         let size = 40 + 4 * lent.tables.iter().map(Vec::len).sum::<usize>();
@@ -165,7 +168,7 @@ pub fn writing(seed: u64) -> Result<String, String> {
             tally.count(write(&lent, room).map_err(|what| format!("lent {n}, room {room}: {what}"))?);
         }
     }
-    Ok(format!("{} plans written, answers {}", tally.calls(), tally.line(&[0, 15, 16, 17], LEAST)?))
+    Ok(format!("{} plans written, answers {}", tally.calls(), tally.line(&[0, 15, 16, 17], share::of(LEAST))?))
 }
 
 /// The tables of a readable plan, often with one count or slot at an edge or beyond it.

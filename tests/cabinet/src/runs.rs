@@ -3,6 +3,7 @@
 use cabinet::boxes::{any_with_waiting, free_words, newcomer, offer, words_of, Settings};
 use cabinet::call::{Call, Outcome};
 use cabinet::chance::Chance;
+use cabinet::share;
 use cabinet::tally::Tally;
 use cabinet::trial::Trial;
 use reference::words::{self, BOX_WORDS};
@@ -37,7 +38,7 @@ impl Seen {
 
     fn line(&self) -> Result<String, String> {
         let Seen { answers, taken, accepted, departed } = self;
-        let counts = answers.line(&ANSWERS, LEAST)?;
+        let counts = answers.line(&ANSWERS, share::of(LEAST))?;
         Ok(format!(
             "{} calls, {taken} connections taken, {accepted} packets accepted, {departed} departed, answers {counts}",
             answers.calls()
@@ -87,11 +88,12 @@ struct Run<'a> {
 
 pub fn part(seed: u64) -> Result<String, String> {
     let mut seen = Seen::default();
-    for run in 0..RUNS {
+    let runs = share::of(RUNS);
+    for run in 0..runs {
         let kind = kind(run);
         one_run(kind, Chance::new(seed, 1, run), &mut seen).map_err(|what| format!("run {run}, {kind:?}: {what}"))?;
     }
-    Ok(format!("{RUNS} runs, {}", seen.line()?))
+    Ok(format!("{runs} runs, {}", seen.line()?))
 }
 
 fn one_run(kind: Kind, mut chance: Chance, seen: &mut Seen) -> Result<(), String> {

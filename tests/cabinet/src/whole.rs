@@ -4,6 +4,7 @@ use cabinet::calls::{self, Answered};
 use cabinet::chance::Chance;
 use cabinet::guarded::Guarded;
 use cabinet::plans::{damaged, runnable};
+use cabinet::share;
 use reference::{plan, run};
 
 const PLANS: u64 = 3_000;
@@ -12,7 +13,8 @@ const ROOM: usize = 420_000;
 
 pub fn part(seed: u64) -> Result<String, String> {
     let (mut departed, mut refused) = (0, 0);
-    for n in 0..PLANS {
+    let plans = share::of(PLANS);
+    for n in 0..plans {
         let mut chance = Chance::new(seed, 7, n);
         let bytes = if chance.one_in(10) { damaged(&mut chance) } else { plan::write(&runnable(&mut chance)).expect("a readable plan") };
         let room = ROOM + chance.pick(&[0, 0, 1, 77]);
@@ -23,10 +25,10 @@ pub fn part(seed: u64) -> Result<String, String> {
             short_rooms(&bytes).map_err(|what| format!("plan {n}: {what}"))?;
         }
     }
-    if refused < PLANS / 50 || departed < PLANS {
-        return Err(format!("{refused} of {PLANS} plans were refused and {departed} packets departed: one kind is hardly tried"));
+    if refused < plans / 50 || departed < plans {
+        return Err(format!("{refused} of {plans} plans were refused and {departed} packets departed: one kind is hardly tried"));
     }
-    Ok(format!("{PLANS} whole runs, {departed} packets departed, {refused} plans refused"))
+    Ok(format!("{plans} whole runs, {departed} packets departed, {refused} plans refused"))
 }
 
 /// Runs the plan in enough room; the text that it gave.

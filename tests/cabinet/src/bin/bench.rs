@@ -1,4 +1,5 @@
-//! What a call of the library costs beside the reference on its own structs, turn by turn in one run, as a table in Markdown.
+//! What a call of the library costs beside the reference on its own structs, turn by turn in one run, as a table in Markdown. After each
+//! turn both must have the same words or text. `bench --equal` makes one turn of each and tells no time.
 
 use cabinet::calls;
 use reference::words::{self, BOX_WORDS};
@@ -10,6 +11,20 @@ use std::time::Instant;
 const CALLS: u64 = 16;
 const TURNS: usize = 4000;
 const LONG_TURNS: usize = 60;
+
+/// Whether only the equality of the results is asked for.
+fn only_equal() -> bool {
+    std::env::args().nth(1).as_deref() == Some("--equal")
+}
+
+/// So many turns, or one where nothing is timed.
+fn turns(timed: usize) -> usize {
+    if only_equal() {
+        1
+    } else {
+        timed
+    }
+}
 
 /// Nanoseconds of a call.
 struct Row {
@@ -33,6 +48,14 @@ impl Pair {
     }
 }
 
+/// The words must be those of the box, up to its last packet; those after it are free.
+fn same(name: &str, words: &[u32], mux: &Multiplexer) {
+    let mut expected = vec![0; BOX_WORDS];
+    words::write(mux, &mut expected);
+    let used = words::WAITING + 4 * mux.waiting.len();
+    assert!(words[..used] == expected[..used], "{name}: the words differ");
+}
+
 /// Nanoseconds of one of so many calls.
 fn timed(count: u64, mut call: impl FnMut(u64)) -> f64 {
     let start = Instant::now();
@@ -53,7 +76,7 @@ fn on_a_box(
 ) -> Row {
     let mut best = [f64::MAX; 3];
     let mut words = pair.words.clone();
-    for _ in 0..turns {
+    for _ in 0..self::turns(turns) {
         words.copy_from_slice(&pair.words);
         let mut mux = pair.mux.clone();
         let taken = [
@@ -61,6 +84,7 @@ fn on_a_box(
             timed(count, |i| reference(black_box(&mut mux), i)),
             timed(count, |_| assert_eq!(calls::is_sound(black_box(&pair.words)), 0)),
         ];
+        same(&name, &words, &mux);
         best = [0, 1, 2].map(|i| taken[i].min(best[i]));
     }
     Row { name, library: best[0], reference: best[1], soundness: Some(best[2]) }
@@ -89,11 +113,12 @@ fn opening() -> Row {
     let wide = factors.map(u64::from);
     let mut words = vec![0; BOX_WORDS];
     let mut best = [f64::MAX; 2];
-    for _ in 0..TURNS {
+    for _ in 0..turns(TURNS) {
         let library = timed(CALLS, |_| assert_eq!(calls::open(black_box(&mut words), 128, 4096, black_box(&factors)), 0));
         let reference = timed(CALLS, |_| {
             black_box(Multiplexer::open(128, 4096, black_box(&wide)).expect("settings in range"));
         });
+        same("open", &words, &Multiplexer::open(128, 4096, &wide).expect("settings in range"));
         best = [library.min(best[0]), reference.min(best[1])];
     }
     Row { name: "open, 8 classes".into(), library: best[0], reference: best[1], soundness: None }
@@ -140,8 +165,9 @@ fn whole_run() -> Row {
     let bytes = reference::plan::write(&plan).expect("a readable plan");
     let mut text = vec![0; 420_000];
     let mut best = [f64::MAX; 2];
-    for _ in 0..LONG_TURNS {
+    for _ in 0..turns(LONG_TURNS) {
         let library = timed(1, |_| assert_eq!(calls::run_plan(black_box(&bytes), &mut text).number, 0));
+        assert!(text.starts_with(reference::run::text(&bytes).as_bytes()), "whole run: the text differs");
         let reference = timed(1, |_| {
             black_box(reference::run::text(black_box(&bytes)));
         });
@@ -151,6 +177,10 @@ fn whole_run() -> Row {
 }
 
 fn print(row: &Row) {
+    if only_equal() {
+        println!("{}: the same", row.name);
+        return;
+    }
     let (sound, share) = match row.soundness {
         Some(n) => (format!("{n:.0}"), format!("{:.0} %", 100.0 * n / row.library)),
         None => ("".into(), "".into()),
@@ -159,9 +189,15 @@ fn print(row: &Row) {
     println!("| {name} | {library:.0} | {reference:.0} | {:.2} | {sound} | {share} |", library / reference);
 }
 
-fn main() {
+fn print_head() {
     println!("| Call | library, ns | reference, ns | ratio | soundness alone, ns | its share of the call |");
     println!("|---|---|---|---|---|---|");
+}
+
+fn main() {
+    if !only_equal() {
+        print_head();
+    }
     print(&opening());
     print(&admission());
     for (packets, name) in [(0, "empty"), (100, "100 waiting"), (1000, "1,000 waiting")] {
