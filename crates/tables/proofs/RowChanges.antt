@@ -18,39 +18,31 @@ use Rattle.words.specs.Changes.{Become}
 use Rattle.tables.specs.TableChanges.{RowPut}
 use Rattle.words.proofs.TableReads.{connection-at}
 use Rattle.words.proofs.Storing.{word-other, word-same}
-use Rattle.words.proofs.Same.{settings-same, standing-same, packet-same, zeros-same, turns-same, link-clear-same, lengths-same, queues-same, untagged-same}
+use Rattle.words.proofs.Same.{standing-same, zeros-same}
+use Rattle.words.proofs.Readings.{counter-word, accepted-word}
+use Rattle.words.proofs.TableChange.{Only, link-stays, link-stays-clear, queues-stay, untagged-stays, table-become}
 
--- a change of rows alone
+-- Rows that change alone become the connections that they are then read as.
 pub rows-become : (ws after : List ℕ) → Fitting ws → length after ≡ length ws
     → ((i : ℕ) → i < rowCountAt → word after i ≡ word ws i) → ((i : ℕ) → counterAt ≤ i → word after i ≡ word ws i)
     → word after rowCountAt ≤ 32 → zeros after (rowsAt + 6 * word after rowCountAt) (counterAt - (rowsAt + 6 * word after rowCountAt)) ≡ true
     → Become ws after (withStanding (contents ws) (standings after))
-unfolding contents withStanding
+unfolding withStanding
 rows-become ws after k l near far n z =
-    (let s = settings-same ws after (k .classes) near in
-    let t = turns-same ws after (near intervalAt (omega arith)) (far counterAt (omega arith)) in
-    let queue-words : (i : ℕ) → lengthsAt ≤ i → word after i ≡ word ws i = λ i h. far i (omega arith) in
-    let m = lengths-same ws after queue-words 64 in
-    let two = near classesAt (omega arith) in
-    record {
-      fitting = record {
-        enough = omega (arith, k .enough);
-        interval = omega (arith, k .interval, near intervalAt (omega arith));
-        classes-least = omega (arith, k .classes-least);
-        classes = omega (arith, k .classes);
-        factors-clear = rw two (zeros-same ws after (factorsAt + word ws classesAt) (rowCountAt - (factorsAt + word ws classesAt)) (λ i a b. near i (omega (arith, k .classes))) ∙ k .factors-clear);
-        rows = n;
-        rows-clear = z;
-        link-clear = link-clear-same ws after (λ i a b. far i (omega arith)) ∙ k .link-clear;
-        largest = rw s (k .largest);
-        untagged = untagged-same ws after queue-words s t ∙ k .untagged;
-        total = omega (arith, k .total);
-      };
-      stands-for =
-          rw (s, far counterAt (omega arith), far acceptedAt (omega arith), far leftAt (omega arith), packet-same ws after linkAt linkAt (λ j g. far (linkAt + j) (omega arith)), queues-same ws after queue-words s t);
-      same-length = l;
-      beyond = λ i h. far i (omega arith);
-    })
+    (let o : Only ws after rowCountAt counterAt = record { same-length = l; kept = λ i h. split i h } in
+    let c = far counterAt (omega arith) in
+    table-become ws after rowCountAt counterAt k o (standings after) (contents ws .counter) (contents ws .accepted) (contents ws .link) (contents ws .queues)
+    (omega arith) (omega arith) (n, z) (link-stays-clear ws after rowCountAt counterAt k o (omega arith))
+    (untagged-stays ws after rowCountAt counterAt k o (omega arith) (omega arith) c) refl (c ∙ sym (counter-word ws))
+    (far acceptedAt (omega arith) ∙ sym (accepted-word ws)) (link-stays ws after rowCountAt counterAt k o (omega arith))
+    (queues-stay ws after rowCountAt counterAt k o (omega arith) (omega arith) c))
+  where
+    split : (i : ℕ) → (rowCountAt ≤ i → i < counterAt → ⊥) → word after i ≡ word ws i
+    split i h =
+        elim (decLe rowCountAt i) [
+          | yes a ↦ elim (decLe counterAt i) [ yes b ↦ far i b | no b ↦ absurd (h a (omega arith)) ]
+          | no a ↦ near i (omega arith)
+        ]
 
 row-is : (ws after : List ℕ) (n next credit : ℕ) → 1 ≤ n → n ≤ word ws rowCountAt
     → word after (rowsAt - 6 + 6 * n) ≡ word ws (rowsAt - 6 + 6 * n) → word after ((rowsAt - 6 + 6 * n) + 1) ≡ word ws ((rowsAt - 6 + 6 * n) + 1)

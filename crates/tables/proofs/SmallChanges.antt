@@ -1,6 +1,6 @@
 -- What the writers of the small parts write stands for the changed contents.
 use Prim.Native.Nat.{ℕ, suc, _+_, _*_, _-_, _/_, _%_, _≤_, _<_}
-use mathlib.Core.Path.{_≡_, refl, sym, ap, _∙_}
+use mathlib.Core.Path.{_≡_, refl, sym, ap, ap₂, _∙_}
 use mathlib.Core.Bool.{Bool, true, false, cond, and-eq-true-iff, true≢false}
 use mathlib.Core.List.{List, [], _∷_, _++_}
 use mathlib.Core.Logic.{⊎-elim}
@@ -26,62 +26,62 @@ use Rattle.words.proofs.PutContents.{untagged-zero, queue-untagged}
 use Rattle.words.proofs.ContentsPut.{length-queue}
 use Rattle.words.proofs.Rotation.{place-turned, place-whole}
 use Rattle.words.proofs.Storing.{word-other, word-same}
-use Rattle.words.proofs.Same.{settings-same, standings-same, packet-same, turns-same, fitting-kept, link-clear-same, lengths-same, queue-same, queues-same, untagged-same}
+use Rattle.words.proofs.Same.{queue-same, queues-same, untagged-same}
+use Rattle.words.proofs.Readings.{counter-word, accepted-word}
+use Rattle.words.proofs.TableChange.{Only, stored-only, settings-stay, rows-stay, rows-stay-clear, link-stays, link-stays-clear, far, queues-stay, untagged-stays, table-become}
 
--- the count of accepted packets
+-- The counter and the count of accepted packets, as the words have them.
+counter-is : (ws : List ℕ) → word ws counterAt ≡ contents ws .counter
+counter-is ws = sym (counter-word ws)
+
+-- The count of accepted packets, as the words have it.
+accepted-is : (ws : List ℕ) → word ws acceptedAt ≡ contents ws .accepted
+accepted-is ws = sym (accepted-word ws)
+
+-- The count of accepted packets changes.
 pub accepted-become : (ws : List ℕ) (v : ℕ) → Fitting ws → Become ws (set ws acceptedAt v) (withAccepted (contents ws) v)
-unfolding contents withAccepted
+unfolding withAccepted
 accepted-become ws v k =
     (let after = set ws acceptedAt v in
-    let e : (i : ℕ) → (i ≡ acceptedAt → ⊥) → word after i ≡ word ws i = λ i h. word-other ws acceptedAt v i h in
-    let s = settings-same ws after (k .classes) (λ i h. e i (λ q. omega arith)) in
-    let t = turns-same ws after (e intervalAt (λ q. omega arith)) (e counterAt (λ q. omega arith)) in
-    let far : (i : ℕ) → lengthsAt ≤ i → word after i ≡ word ws i = λ i h. e i (λ q. omega arith) in
-    let l = lengths-same ws after far 64 in
-    record {
-      fitting = fitting-kept ws after k (length-set ws acceptedAt v) (λ i h. e i (λ q. omega arith))
-          (link-clear-same ws after (λ i a b. e i (λ q. omega arith)) ∙ k .link-clear) (untagged-same ws after far s t ∙ k .untagged) (omega (arith, k .total));
-      stands-for =
-          rw (
-            s,
-            standings-same ws after (k .rows) (λ i a b. e i (λ q. omega arith)),
-            e counterAt (λ q. omega arith),
-            word-same ws acceptedAt v acceptedAt (omega (arith, k .enough)) refl,
-            e leftAt (λ q. omega arith),
-            packet-same ws after linkAt linkAt (λ j g. e (linkAt + j) (λ q. omega arith)),
-            queues-same ws after far s t,
-          );
-      same-length = length-set ws acceptedAt v;
-      beyond = λ i h. far i (omega arith);
-    })
+    let o = stored-only ws acceptedAt v in
+    let c : word after counterAt ≡ word ws counterAt = o .kept counterAt (λ p q. omega arith) in
+    table-become ws after acceptedAt (acceptedAt + 1) k o (contents ws .standing) (contents ws .counter) v (contents ws .link) (contents ws .queues)
+    (omega arith) (omega arith) (rows-stay-clear ws after acceptedAt (acceptedAt + 1) k o (omega arith))
+    (link-stays-clear ws after acceptedAt (acceptedAt + 1) k o (omega arith))
+    (untagged-stays ws after acceptedAt (acceptedAt + 1) k o (omega arith) (omega arith) c)
+    (rows-stay ws after acceptedAt (acceptedAt + 1) k o (omega arith)) (c ∙ counter-is ws)
+    (word-same ws acceptedAt v acceptedAt (omega (arith, k .enough)) refl) (link-stays ws after acceptedAt (acceptedAt + 1) k o (omega arith))
+    (queues-stay ws after acceptedAt (acceptedAt + 1) k o (omega arith) (omega arith) c))
 
--- the link
+-- A packet written on the link with its units left changes the words of the link alone.
+link-only : (ws after : List ℕ) (left : ℕ) (p : Packet) → PacketPut (set ws leftAt left) after linkAt p → Only ws after leftAt lengthsAt
+link-only ws after left p w =
+    record {
+      same-length = w .same-length ∙ length-set ws leftAt left;
+      kept = λ i h.
+          elim (decLe lengthsAt i) [
+            | yes a ↦ w .above i (omega arith) ∙ word-other ws leftAt left i (λ q. omega arith)
+            | no a ↦
+                (let b : i < leftAt = not-within i h (omega arith) in w .below i (omega arith) ∙ word-other ws leftAt left i (λ q. omega arith))
+          ];
+    }
+  where
+    not-within : (i : ℕ) → (leftAt ≤ i → i < lengthsAt → ⊥) → i < lengthsAt → i < leftAt
+    not-within i h l = elim (decLe leftAt i) [ yes a ↦ absurd (h a l) | no a ↦ omega arith ]
+
+-- The link changes.
 pub link-become : (ws after : List ℕ) (left : ℕ) (p : Packet) → Fitting ws → PacketPut (set ws leftAt left) after linkAt p → linkClear after ≡ true
     → Become ws after (withLink (contents ws) (linkOf left p))
-unfolding contents withLink
+unfolding withLink
 link-become ws after left p k w c =
-    (let mid = set ws leftAt left in
-    let far : (i : ℕ) → lengthsAt ≤ i → word after i ≡ word ws i = λ i h. w .above i (omega arith) ∙ word-other ws leftAt left i (λ q. omega arith) in
-    let near : (i : ℕ) → i < leftAt → word after i ≡ word ws i = λ i h. w .below i (omega arith) ∙ word-other ws leftAt left i (λ q. omega arith) in
-    let s = settings-same ws after (k .classes) (λ i h. near i (omega arith)) in
-    let t = turns-same ws after (near intervalAt (omega arith)) (near counterAt (omega arith)) in
-    let l = lengths-same ws after far 64 in
-    let n : length after ≡ length ws = w .same-length ∙ length-set ws leftAt left in
-    record {
-      fitting = fitting-kept ws after k n (λ i h. near i (omega arith)) c (untagged-same ws after far s t ∙ k .untagged) (omega (arith, k .total));
-      stands-for =
-          rw (
-            s,
-            standings-same ws after (k .rows) (λ i a b. near i (omega arith)),
-            near counterAt (omega arith),
-            near acceptedAt (omega arith),
-            w .below leftAt (omega arith) ∙ word-same ws leftAt left leftAt (omega (arith, k .enough)) refl,
-            w .packet,
-            queues-same ws after far s t,
-          );
-      same-length = n;
-      beyond = λ i h. far i (omega arith);
-    })
+    (let o = link-only ws after left p w in
+    let n : word after counterAt ≡ word ws counterAt = o .kept counterAt (λ x y. omega arith) in
+    let l : word after leftAt ≡ left = w .below leftAt (omega arith) ∙ word-same ws leftAt left leftAt (omega (arith, k .enough)) refl in
+    table-become ws after leftAt lengthsAt k o (contents ws .standing) (contents ws .counter) (contents ws .accepted) (linkOf left p) (contents ws .queues)
+    (omega arith) (omega arith) (rows-stay-clear ws after leftAt lengthsAt k o (omega arith)) c
+    (untagged-stays ws after leftAt lengthsAt k o (omega arith) (omega arith) n) (rows-stay ws after leftAt lengthsAt k o (omega arith))
+    (n ∙ counter-is ws) (o .kept acceptedAt (λ x y. omega arith) ∙ accepted-is ws) (ap₂ linkOf l (w .packet))
+    (queues-stay ws after leftAt lengthsAt k o (omega arith) (omega arith) n))
 
 -- a slot later floor(now/D) is one more exactly at a turn
 next-turn : (n D : ℕ) → 1 ≤ D → suc n % D ≡ 0 → suc n / D ≡ suc (n / D)
@@ -143,43 +143,43 @@ past-last ws f z k h l =
       | no a ↦ untagged-zero ws (f .untagged) k h (omega arith)
     ]
 
--- the counter
+-- The counter changes.
 module _ (ws : List ℕ) (v : ℕ) (k : Fitting ws) where
-  counted : (i : ℕ) → (i ≡ counterAt → ⊥) → word (set ws counterAt v) i ≡ word ws i
-  counted i h = word-other ws counterAt v i h
+  -- A store of the counter changes no other word.
+  abbrev counted-only : Only ws (set ws counterAt v) counterAt (counterAt + 1)
+  counted-only = stored-only ws counterAt v
 
+  -- The words of the queues stay.
   pub counted-far : (i : ℕ) → lengthsAt ≤ i → word (set ws counterAt v) i ≡ word ws i
-  counted-far i h = counted i (λ q. omega arith)
+  counted-far = far ws (set ws counterAt v) counterAt (counterAt + 1) k counted-only (omega arith)
 
+  -- The settings stay.
   pub counted-settings : settingsAt (set ws counterAt v) ≡ settingsAt ws
-  counted-settings = settings-same ws (set ws counterAt v) (k .classes) (λ i h. counted i (λ q. omega arith))
-
-  pub counter-become : (qs : List (List Packet)) → untaggedEmpty (set ws counterAt v) ≡ true → queuesAt (set ws counterAt v) ≡ qs
-      → Become ws (set ws counterAt v) (record { settings = contents ws .settings; standing = contents ws .standing; counter = v; accepted = contents ws .accepted; link = contents ws .link; queues = qs })
   unfolding contents
+  counted-settings = settings-stay ws (set ws counterAt v) counterAt (counterAt + 1) k counted-only (omega arith)
+
+  -- The words become those of the box with this counter, whatever its queues are then read as.
+  pub counter-become : (qs : List (List Packet)) → untaggedEmpty (set ws counterAt v) ≡ true → queuesAt (set ws counterAt v) ≡ qs
+      → Become ws (set ws counterAt v)
+      (record {
+        settings = contents ws .settings;
+        standing = contents ws .standing;
+        counter = v;
+        accepted = contents ws .accepted;
+        link = contents ws .link;
+        queues = qs;
+      })
   counter-become qs u q =
       (let after = set ws counterAt v in
-      let l = lengths-same ws after counted-far 64 in
-      record {
-        fitting = fitting-kept ws after k (length-set ws counterAt v) (λ i h. counted i (λ q. omega arith))
-            (link-clear-same ws after (λ i a b. counted i (λ q. omega arith)) ∙ k .link-clear) u (omega (arith, k .total));
-        stands-for =
-            rw (
-              counted-settings,
-              standings-same ws after (k .rows) (λ i a b. counted i (λ q. omega arith)),
-              word-same ws counterAt v counterAt (omega (arith, k .enough)) refl,
-              counted acceptedAt (λ q. omega arith),
-              counted leftAt (λ q. omega arith),
-              packet-same ws after linkAt linkAt (λ j g. counted (linkAt + j) (λ q. omega arith)),
-              q,
-            );
-        same-length = length-set ws counterAt v;
-        beyond = λ i h. counted-far i (omega arith);
-      })
+      let o = counted-only in
+      table-become ws after counterAt (counterAt + 1) k o (contents ws .standing) v (contents ws .accepted) (contents ws .link) qs (omega arith) (omega arith)
+      (rows-stay-clear ws after counterAt (counterAt + 1) k o (omega arith)) (link-stays-clear ws after counterAt (counterAt + 1) k o (omega arith)) u
+      (rows-stay ws after counterAt (counterAt + 1) k o (omega arith)) (word-same ws counterAt v counterAt (omega (arith, k .enough)) refl)
+      (o .kept acceptedAt (λ x y. omega arith) ∙ accepted-is ws) (link-stays ws after counterAt (counterAt + 1) k o (omega arith)) q)
 
   turns-after : turnsAt (set ws counterAt v) ≡ v / word ws intervalAt
   unfolding turnsAt
-  turns-after = rw (word-same ws counterAt v counterAt (omega (arith, k .enough)) refl, counted intervalAt (λ q. omega arith))
+  turns-after = rw (word-same ws counterAt v counterAt (omega (arith, k .enough)) refl, counted-only .kept intervalAt (λ x y. omega arith))
 
   turned-untagged : turnsAt (set ws counterAt v) ≡ suc (turnsAt ws) → tagZeroWaits (contents ws .queues) ≡ false → untaggedEmpty (set ws counterAt v) ≡ true
   unfolding untaggedEmpty emptyFrom

@@ -10,4 +10,5 @@ pub mod TestedSound
 pub mod Same
 pub mod Storing
 pub mod Becoming
+pub mod TableChange
 pub mod Readings
