@@ -75,7 +75,8 @@ module _ {ws : List ℕ} {n slots first sum i : ℕ} (k : Rating ws n slots firs
   rated h c f =
       let e : i ≡ word ws rowCountAt = (let a = k .rows-are in let b = k .i-most in omega arith) in
       let s = k .sum-is in
-      let x : sumOf (rateTerm slots) (rowsTo ws i) ≡ sumOf (rateTerm slots) (rowsTo ws (word ws rowCountAt)) = ap (λ j. sumOf (rateTerm slots) (rowsTo ws j)) e in
+      let x : sumOf (rateTerm slots) (rowsTo ws i) ≡ sumOf (rateTerm slots) (rowsTo ws (word ws rowCountAt)) =
+      ap (λ j. sumOf (rateTerm slots) (rowsTo ws j)) e in
       let w = sum-with (rateTerm slots) ws c in
       let a : sum ≡ sumOf (rateTerm slots) (withAsked ws c) = omega arith in
       a ∙ ap (λ m. sumOf (rateTerm m) (withAsked ws c)) (k .slots-are) ∙ rate-is ws c

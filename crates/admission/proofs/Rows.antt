@@ -1,25 +1,24 @@
 -- Sums and largest values over the rows, one row more at a time.
 use Prim.Native.Nat.{ℕ, zero, suc, _+_, _*_, _-_, _/_, _≤_, _<_, max}
-use mathlib.Core.Path.{_≡_, refl, sym, ap, _∙_}
-use mathlib.Core.Bool.{Bool, true, false, cond, not, _&&_, _||_, and-eq-true-iff}
+use mathlib.Core.Path.{_≡_, refl, ap, _∙_}
+use mathlib.Core.Bool.{Bool, true, false, not, _&&_, _||_, and-eq-true-iff}
 use mathlib.Core.List.{List, [], _∷_, _++_, map, map-append}
 use native.Mathlib.Nat.{mul-le-mul, div-le-self, max-comm}
 use native.Mathlib.Omega.{arith}
-use lib.ListN.{length}
-use lib.Dec.{leb, ltb}
+use lib.Dec.{leb}
 use borrow.Author.Tests.{le-leb, lt-leb, leb-true}
-use Rattle.laws.specs.Series.{series, series-last, series-append}
+use Rattle.laws.specs.Series.{series, series-last}
 use Rattle.laws.specs.Sums.{sumOf, largestOf, sum-append}
-use Rattle.laws.specs.Tests.{same-test, bool-cases}
+use Rattle.laws.specs.Tests.{same-test}
 use Rattle.meaning.specs.declared.Connection.{Connection}
-use Rattle.meaning.specs.Numbers.{Settings, bound, connectionAllowed}
+use Rattle.meaning.specs.Numbers.{Settings, connectionAllowed}
 use Rattle.meaning.specs.Admission.{term, sumAt, inTheWay, eleven, twelveRange, twelve, conditionAt, rate}
 use Rattle.meaning.specs.declared.Standing.{Standing}
 use Rattle.meaning.proofs.Facts.{connection-facts}
 use Rattle.words.specs.Places.{word, cycleAt, rowCountAt, rowsAt}
 use Rattle.words.specs.Contents.{askedAt, standingAt, standings, settingsAt}
-use Rattle.admission.specs.Asking.{Ready, Allowed, withAsked, wayTerm}
-use Rattle.admission.proofs.Tables.{cycle-is, cycle-most}
+use Rattle.admission.specs.Asking.{Ready, withAsked, wayTerm}
+use Rattle.admission.proofs.Tables.{cycle-most}
 
 -- What the connections in the first n rows asked for.
 unfoldable pub rowsTo : List ℕ → ℕ → List Connection
@@ -27,7 +26,8 @@ rowsTo ws n = map (λ s. s .asked) (series (standingAt ws) 6 rowsAt n)
 
 row-last : (ws : List ℕ) (n : ℕ) → rowsTo ws (suc n) ≡ rowsTo ws n ++ (askedAt ws n ∷ [])
 unfolding rowsTo
-row-last ws n = ap (map (λ (s : Standing). s .asked)) (series-last (standingAt ws) 6 rowsAt n) ∙ map-append (λ (s : Standing). s .asked) (series (standingAt ws) 6 rowsAt n) (standingAt ws (rowsAt + 6 * n) ∷ [])
+row-last ws n = ap (map (λ (s : Standing). s .asked)) (series-last (standingAt ws) 6 rowsAt n) ∙
+    map-append (λ (s : Standing). s .asked) (series (standingAt ws) 6 rowsAt n) (standingAt ws (rowsAt + 6 * n) ∷ [])
 
 no-rows : (ws : List ℕ) → rowsTo ws 0 ≡ []
 unfolding rowsTo series
@@ -85,7 +85,8 @@ unfolding rate settingsAt
 rate-is ws c = refl
 
 -- It is at most 64 x 4,096.
-pub rate-most : (ws : List ℕ) (c : Connection) → Ready ws → connectionAllowed (settingsAt ws) c ≡ true → rateTerm (word ws cycleAt) c ≤ 262144
+pub rate-most : (ws : List ℕ) (c : Connection) → Ready ws → connectionAllowed (settingsAt ws) c ≡ true
+    → rateTerm (word ws cycleAt) c ≤ 262144
 rate-most ws c r a =
     let f = connection-facts (settingsAt ws) c a in
     let m = cycle-most ws r in
@@ -105,12 +106,14 @@ unfolding largestOf wayTerm inTheWay
 all-speak set t [] e = refl
 all-speak set t (c ∷ cs) e = rw (e, all-speak set t cs e) refl
 
-pub one-test : (set : Settings) (cs : List Connection) (t : ℕ) → conditionAt set cs t ≡ leb (sumAt set cs t + largestOf (wayTerm set t) cs) t
+pub one-test : (set : Settings) (cs : List Connection) (t : ℕ)
+    → conditionAt set cs t ≡ leb (sumAt set cs t + largestOf (wayTerm set t) cs) t
 unfolding conditionAt eleven twelve
 one-test set cs t = go (twelveRange set t) refl
   where
     go : (b : Bool) → twelveRange set t ≡ b
-        → (leb (sumAt set cs t) t && (not b || leb (sumAt set cs t + inTheWay set cs t) t)) ≡ leb (sumAt set cs t + largestOf (wayTerm set t) cs) t
+        → (leb (sumAt set cs t) t && (not b || leb (sumAt set cs t + inTheWay set cs t) t))
+        ≡ leb (sumAt set cs t + largestOf (wayTerm set t) cs) t
     go false e =
         let z : sumAt set cs t + largestOf (wayTerm set t) cs ≡ sumAt set cs t = (let y = all-silent set t cs e in omega arith) in
         rw z (mathlib.Core.Bool.and-true (leb (sumAt set cs t) t))
@@ -120,7 +123,8 @@ one-test set cs t = go (twelveRange set t) refl
         (λ h. and-eq-true-iff (leb (sumAt set cs t) t) (leb (sumAt set cs t + inTheWay set cs t) t) .0 h .1)
         (λ h.
         let l : sumAt set cs t + inTheWay set cs t ≤ t = leb-true _ _ h in
-        and-eq-true-iff (leb (sumAt set cs t) t) (leb (sumAt set cs t + inTheWay set cs t) t) .1 (le-leb (sumAt set cs t) t (omega arith), h)))
+        and-eq-true-iff (leb (sumAt set cs t) t) (leb (sumAt set cs t + inTheWay set cs t) t) .1
+        (le-leb (sumAt set cs t) t (omega arith), h)))
 
 module _ (ws : List ℕ) (c : Connection) (t : ℕ) where
   abbrev theTerm : Connection → ℕ
@@ -130,7 +134,8 @@ module _ (ws : List ℕ) (c : Connection) (t : ℕ) where
   theWay = wayTerm (settingsAt ws) t
 
   -- the condition holds where the sum and the packet in the way are at most t
-  pub holds-at : theTerm c + sumOf theTerm (rowsTo ws (word ws rowCountAt)) + max (theWay c) (largestOf theWay (rowsTo ws (word ws rowCountAt))) ≤ t
+  pub holds-at : theTerm c + sumOf theTerm (rowsTo ws (word ws rowCountAt)) + max (theWay c)
+      (largestOf theWay (rowsTo ws (word ws rowCountAt))) ≤ t
       → conditionAt (settingsAt ws) (withAsked ws c) t ≡ true
   unfolding sumAt
   holds-at h =
@@ -141,7 +146,8 @@ module _ (ws : List ℕ) (c : Connection) (t : ℕ) where
       le-leb (sumOf theTerm (withAsked ws c) + largestOf theWay (withAsked ws c)) t (omega arith)
 
   -- and fails where they exceed t
-  pub fails-at : t < theTerm c + sumOf theTerm (rowsTo ws (word ws rowCountAt)) + max (theWay c) (largestOf theWay (rowsTo ws (word ws rowCountAt)))
+  pub fails-at : t < theTerm c + sumOf theTerm (rowsTo ws (word ws rowCountAt)) + max (theWay c)
+      (largestOf theWay (rowsTo ws (word ws rowCountAt)))
       → conditionAt (settingsAt ws) (withAsked ws c) t ≡ false
   unfolding sumAt
   fails-at h =
@@ -152,9 +158,11 @@ module _ (ws : List ℕ) (c : Connection) (t : ℕ) where
       lt-leb (sumOf theTerm (withAsked ws c) + largestOf theWay (withAsked ws c)) t (omega arith)
 
   -- and fails where the sum over some rows already exceeds t
-  pub fails-early : (i : ℕ) → i ≤ word ws rowCountAt → t < theTerm c + sumOf theTerm (rowsTo ws i) → conditionAt (settingsAt ws) (withAsked ws c) t ≡ false
+  pub fails-early : (i : ℕ) → i ≤ word ws rowCountAt → t < theTerm c + sumOf theTerm (rowsTo ws i)
+      → conditionAt (settingsAt ws) (withAsked ws c) t ≡ false
   fails-early i k h =
       let e : word ws rowCountAt - i + i ≡ word ws rowCountAt = omega arith in
       let p = sum-partial theTerm ws i (word ws rowCountAt - i) in
-      let q : sumOf theTerm (rowsTo ws (word ws rowCountAt - i + i)) ≡ sumOf theTerm (rowsTo ws (word ws rowCountAt)) = ap (λ n. sumOf theTerm (rowsTo ws n)) e in
+      let q : sumOf theTerm (rowsTo ws (word ws rowCountAt - i + i)) ≡ sumOf theTerm (rowsTo ws (word ws rowCountAt)) =
+      ap (λ n. sumOf theTerm (rowsTo ws n)) e in
       fails-at (omega arith)

@@ -1,15 +1,15 @@
 -- What the two loops of the search keep.
-use Prim.Native.Nat.{ℕ, suc, _+_, _*_, _≤_, _<_, max}
-use mathlib.Core.Path.{_≡_, refl, sym, ap, _∙_}
+use Prim.Native.Nat.{ℕ, _+_, _*_, _≤_, _<_, max}
+use mathlib.Core.Path.{_≡_, sym, ap, _∙_}
 use mathlib.Core.Bool.{Bool, true, false, _&&_}
 use mathlib.Core.List.{List}
 use lib.ListN.{length}
 use native.Mathlib.Numerals.{add-one}
-use native.Mathlib.Nat.{le-max-left, le-max-right, eq-or-lt-of-le}
+use native.Mathlib.Nat.{eq-or-lt-of-le}
 use mathlib.Core.Logic.{⊎-elim}
 use native.Mathlib.Omega.{arith}
 use lib.Dec.{leb, ltb}
-use Rattle.laws.specs.Search.{failsAt, holds, firstFailing}
+use Rattle.laws.specs.Search.{failsAt, holds}
 use Rattle.laws.specs.Found.{found-fails, found-holds}
 use Rattle.laws.specs.Sums.{sumOf, largestOf}
 use Rattle.meaning.specs.Numbers.{classCount, bound, largestBound}
@@ -36,7 +36,8 @@ pub record Known (ws : List ℕ) (c : Connection) (n interval first last end : �
   pub end-most : end ≤ 5120
 
 -- The numbers that the search reads first are known from what the readers of the tables promise.
-pub known : (ws : List ℕ) (c : Connection) (n turn first classes last slots : ℕ) → Ready ws → Allowed ws c → n ≡ length (contents ws .standing)
+pub known : (ws : List ℕ) (c : Connection) (n turn first classes last slots : ℕ) → Ready ws → Allowed ws c
+    → n ≡ length (contents ws .standing)
     → turn ≡ contents ws .settings .interval → first ≡ bound (settingsAt ws) 1 → classes ≡ classCount (contents ws .settings)
     → (last ≡ bound (settingsAt ws) classes) × (last ≤ 1024) → slots ≡ contents ws .settings .cycle
     → Known ws c n turn first last (last + slots)
@@ -150,7 +151,8 @@ module _ {ws : List ℕ} {c : Connection} {n interval first last end t : ℕ} {s
         let e = rows-done h in
         let a = s .term-is in
         let b = s .term-way in (
-          s .sum-is ∙ ap (λ k. sum₀ + sumOf (term (settingsAt ws) t) (rowsTo ws k)) e ∙ ap (λ k. k + sumOf (term (settingsAt ws) t) (rowsTo ws (word ws rowCountAt))) a,
+          s .sum-is ∙ ap (λ k. sum₀ + sumOf (term (settingsAt ws) t) (rowsTo ws k)) e ∙
+              ap (λ k. k + sumOf (term (settingsAt ws) t) (rowsTo ws (word ws rowCountAt))) a,
           s .way-is ∙ ap (λ k. max way₀ (largestOf (wayTerm (settingsAt ws) t) (rowsTo ws k))) e ∙
               ap (λ k. max k (largestOf (wayTerm (settingsAt ws) t) (rowsTo ws (word ws rowCountAt)))) b,
         )
@@ -186,10 +188,12 @@ module _ {ws : List ℕ} {c : Connection} {n interval first last end t : ℕ} (s
   unfolding finiteSearch
   finds h f =
       let e = s .knows .end-is in
-      sym (found-fails (conditionAt (settingsAt ws) (withAsked ws c)) (largestBound (settingsAt ws) + settingsAt ws .cycle) t (omega arith) (s .held) f)
+      sym (found-fails (conditionAt (settingsAt ws) (withAsked ws c)) (largestBound (settingsAt ws) + settingsAt ws .cycle) t (omega arith)
+      (s .held) f)
 
   pub finds-none : end ≤ t → holds ≡ finiteSearch (settingsAt ws) (withAsked ws c)
   unfolding finiteSearch
   finds-none h =
       let e = s .knows .end-is in
-      sym (found-holds (conditionAt (settingsAt ws) (withAsked ws c)) (largestBound (settingsAt ws) + settingsAt ws .cycle) (λ k l. s .held k (omega arith)))
+      sym (found-holds (conditionAt (settingsAt ws) (withAsked ws c)) (largestBound (settingsAt ws) + settingsAt ws .cycle)
+      (λ k l. s .held k (omega arith)))

@@ -1,15 +1,14 @@
 -- What allowed tables say of the numbers that the search computes with.
-use Prim.Native.Nat.{ℕ, suc, _+_, _*_, _-_, _/_, _≤_, _<_}
+use Prim.Native.Nat.{ℕ, _+_, _*_, _-_, _/_, _≤_, _<_}
 use mathlib.Core.Path.{_≡_, refl, ap₂, _∙_}
 use mathlib.Core.Bool.{Bool, true, false, cond}
 use mathlib.Core.List.{List}
 use native.Mathlib.Nat.{mul-le-mul-right, mul-le-mul, div-le-self}
 use native.Mathlib.Omega.{arith}
-use lib.ListN.{length, getD}
 use borrow.Author.Tests.{le-leb, lt-leb, eq-eqb, ne-eqb, lt-ltb, le-ltb}
-use Rattle.laws.specs.Series.{series, length-series, getD-series}
+use Rattle.laws.specs.Series.{length-series}
 use Rattle.meaning.specs.declared.Connection.{Connection}
-use Rattle.meaning.specs.Numbers.{Settings, classCount, factor, largestFactor, bound, largestBound, connectionAllowed}
+use Rattle.meaning.specs.Numbers.{classCount, factor, largestFactor, bound, largestBound}
 use Rattle.meaning.specs.Envelope.{mayHave, envelope, delayed}
 use Rattle.meaning.specs.Admission.{term, twelveRange}
 use Rattle.meaning.proofs.Facts.{SettingsFacts, ConnectionFacts, settings-facts, connection-facts}
@@ -108,7 +107,8 @@ pub units-most : (c : Connection) (d t : ℕ) → Small c → t ≤ 6000 → c .
 units-most c d t s h = product-most (c .longest) (c .burst + (t - d) / c .period) (s .longest-most) (count-most c d t s h)
 
 -- What a connection adds, by its class.
-pub term-first : (ws : List ℕ) (c : Connection) (t : ℕ) → c .class ≡ 1 → delayed (envelope c) (bound (settingsAt ws) (c .class)) t ≡ term (settingsAt ws) t c
+pub term-first : (ws : List ℕ) (c : Connection) (t : ℕ) → c .class ≡ 1
+    → delayed (envelope c) (bound (settingsAt ws) (c .class)) t ≡ term (settingsAt ws) t c
 unfolding term
 term-first ws c t e = rw (eq-eqb (c .class) 1 e) refl
 
@@ -122,12 +122,14 @@ pub way-silent : (ws : List ℕ) (c : Connection) (t : ℕ) → twelveRange (set
 unfolding wayTerm
 way-silent ws c t e = rw e refl
 
-pub way-longest : (ws : List ℕ) (c : Connection) (t : ℕ) → twelveRange (settingsAt ws) t ≡ true → t + word ws intervalAt < bound (settingsAt ws) (c .class)
+pub way-longest : (ws : List ℕ) (c : Connection) (t : ℕ) → twelveRange (settingsAt ws) t ≡ true
+    → t + word ws intervalAt < bound (settingsAt ws) (c .class)
     → c .longest ≡ wayTerm (settingsAt ws) t c
 unfolding wayTerm settingsAt
 way-longest ws c t e h = rw (e, lt-ltb (t + word ws intervalAt) (bound (settingsAt ws) (c .class)) h) refl
 
-pub way-nothing : (ws : List ℕ) (c : Connection) (t : ℕ) → bound (settingsAt ws) (c .class) ≤ t + word ws intervalAt → 0 ≡ wayTerm (settingsAt ws) t c
+pub way-nothing : (ws : List ℕ) (c : Connection) (t : ℕ) → bound (settingsAt ws) (c .class) ≤ t + word ws intervalAt
+    → 0 ≡ wayTerm (settingsAt ws) t c
 unfolding wayTerm settingsAt
 way-nothing ws c t h = rw (le-ltb (t + word ws intervalAt) (bound (settingsAt ws) (c .class)) h) (either (twelveRange (settingsAt ws) t))
   where

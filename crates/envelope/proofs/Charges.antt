@@ -1,4 +1,5 @@
--- What `charged` and `charge` ask of an allowance, and what they say of the charged one: the walks of `charge` and `charge_record` cite the two facts by these names.
+-- What `charged` and `charge` ask of an allowance, and what they say of the charged one: the walks of `charge` and `charge_record` cite the
+-- two facts by these names.
 use Prim.Native.Nat.{ℕ}
 use mathlib.Core.Path.{_≡_}
 use mathlib.Core.Bool.{true}

@@ -1,14 +1,14 @@
 -- The three ways of a refill: no credit came back, all are back, some are.
-use Prim.Native.Nat.{ℕ, suc, _+_, _*_, _-_, _/_, _≤_, _<_}
+use Prim.Native.Nat.{ℕ, _+_, _*_, _-_, _/_, _≤_, _<_}
 use mathlib.Core.Path.{_≡_, refl, sym, ap, _∙_}
 use mathlib.Core.Bool.{true}
-use mathlib.Core.Logic.{_⊎_, inl, inr, ⊎-elim}
-use native.Mathlib.Nat.{div-mul-le-self, zero-mul, suc-mul}
+use mathlib.Core.Logic.{inl, inr}
+use native.Mathlib.Nat.{div-mul-le-self, zero-mul}
 use native.Mathlib.Omega.{arith}
 use lib.Dec.{leb}
 use borrow.Author.Tests.{eq-eqb, ne-eqb, leb-true}
 use Rattle.meaning.specs.Envelope.{full, cameBack, refilled, charged, conforms}
-use Rattle.meaning.proofs.Allowances.{Means, Fresh, Used, kept-means, refilled-some, refilled-all, none-back, some-back}
+use Rattle.meaning.proofs.Allowances.{Means, kept-means, refilled-some, refilled-all, none-back, some-back}
 use Rattle.meaning.specs.declared.Allowance.{Allowance}
 use Rattle.envelope.specs.Record.{sender, Ready}
 
@@ -46,7 +46,8 @@ module _ (burst period : ℕ) (a : Allowance) (slot : ℕ) (r : Ready burst peri
       credit-same : cameBack (sender burst period) a slot ≡ 0 → a .credit + cameBack (sender burst period) a slot ≡ a .credit
       credit-same k = omega arith
 
-  pub filled : a .next ≤ slot → burst - a .credit ≤ (slot - a .next) / period + 1 → full (sender burst 0) ≡ refilled (sender burst period) a slot
+  pub filled : a .next ≤ slot → burst - a .credit ≤ (slot - a .next) / period + 1
+      → full (sender burst 0) ≡ refilled (sender burst period) a slot
   unfolding full
   filled h l =
       let k = some-back (sender burst period) slot a h in
@@ -72,7 +73,8 @@ module _ (burst period slot : ℕ) (a now : Allowance) (e : now ≡ refilled (se
   unfolding charged
   charged-full h = rw (← e, eq-eqb (now .credit) burst h) refl
 
-  pub charged-fewer : (now .credit ≡ burst → ⊥) → record { next = now .next; credit = now .credit - 1 } ≡ charged (sender burst period) a slot
+  pub charged-fewer : (now .credit ≡ burst → ⊥) → record { next = now .next; credit = now .credit - 1 }
+      ≡ charged (sender burst period) a slot
   unfolding charged
   charged-fewer h = rw (← e, ne-eqb (now .credit) burst h) refl
 

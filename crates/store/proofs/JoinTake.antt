@@ -29,8 +29,10 @@ unfolding series
 tail-series f start n = refl
 
 -- a packet joins
-module _ (ws up placed : List ℕ) (tag : ℕ) (p : Packet) (k : Fitting ws) (tagged : tag ≤ largestFactor (settingsAt ws)) (room : lengthsBelow ws 64 < 1024)
-    (at end v : ℕ) (at-is : at ≡ packetsAt + 4 * lengthsBelow ws (placeOf (turnsAt ws) tag + 1)) (end-is : end ≡ packetsAt + 4 * lengthsBelow ws 64)
+module _ (ws up placed : List ℕ) (tag : ℕ) (p : Packet) (k : Fitting ws) (tagged : tag ≤ largestFactor (settingsAt ws))
+    (room : lengthsBelow ws 64 < 1024)
+    (at end v : ℕ) (at-is : at ≡ packetsAt + 4 * lengthsBelow ws (placeOf (turnsAt ws) tag + 1))
+    (end-is : end ≡ packetsAt + 4 * lengthsBelow ws 64)
     (u : MovedUp ws up at end) (w : PacketPut up placed at p) (v-is : v ≡ word placed (lengthsAt + placeOf (turnsAt ws) tag) + 1) where
   place : ℕ
   place = placeOf (turnsAt ws) tag
@@ -56,7 +58,8 @@ module _ (ws up placed : List ℕ) (tag : ℕ) (p : Packet) (k : Fitting ws) (ta
       record {
         same-length = length-set placed (lengthsAt + P) v ∙ l;
         tables = λ i h q. word-other placed (lengthsAt + P) v i q ∙ same i (omega arith);
-        count = (let c = word-same placed (lengthsAt + P) v (lengthsAt + P) (omega (arith, k .enough)) refl in let d = same (lengthsAt + P) (omega arith) in omega arith);
+        count = (let c = word-same placed (lengthsAt + P) v (lengthsAt + P) (omega (arith, k .enough)) refl in
+            let d = same (lengthsAt + P) (omega arith) in omega arith);
         before = λ i h q. word-other placed (lengthsAt + P) v i (λ e. omega arith) ∙ same i (omega arith);
         later = λ i j a b e.
             word-other placed (lengthsAt + P) v j (λ q. omega arith) ∙ w .above j (omega arith) ∙
@@ -80,7 +83,8 @@ module _ (ws up placed : List ℕ) (tag : ℕ) (p : Packet) (k : Fitting ws) (ta
       (series-last (packetAt after) 4 (startOf ws P) n ∙
       ap (λ l. l ++ (packetAt after (startOf ws P + 4 * n) ∷ []))
       (series-same (packetAt after) (packetAt ws) 4 (startOf ws P) (startOf ws P) n (λ i h.
-      packet-same ws after (startOf ws P + 4 * i) (startOf ws P + 4 * i) (λ j g. stays (startOf ws P + 4 * i + j) (omega arith) (omega arith)))) ∙
+      packet-same ws after (startOf ws P + 4 * i) (startOf ws P + 4 * i)
+      (λ j g. stays (startOf ws P + 4 * i + j) (omega arith) (omega arith)))) ∙
       ap (λ x. series (packetAt ws) 4 (startOf ws P) n ++ (x ∷ []))
       (ap (packetAt after) e ∙ packet-same placed after at at (λ j g. unset (at + j) (omega arith)) ∙ w .packet)))
     where
@@ -90,7 +94,8 @@ module _ (ws up placed : List ℕ) (tag : ℕ) (p : Packet) (k : Fitting ws) (ta
       stays : (i : ℕ) → packetsAt ≤ i → i < at → word after i ≡ word ws i
       stays i h l = stored i h ∙ w .below i l ∙ u .below i l
 
-  pub joined-become : Become ws (set placed (lengthsAt + placeOf (turnsAt ws) tag) v) (withQueues (contents ws) (joinTail tag p (contents ws .queues)))
+  pub joined-become : Become ws (set placed (lengthsAt + placeOf (turnsAt ws) tag) v)
+      (withQueues (contents ws) (joinTail tag p (contents ws .queues)))
   unfolding after place
   joined-become =
       (let P = placeOf (turnsAt ws) tag in
@@ -99,9 +104,12 @@ module _ (ws up placed : List ℕ) (tag : ℕ) (p : Packet) (k : Fitting ws) (ta
       let t = total-moved ws after P 0 1 small s in
       let q : joinTail tag p (contents ws .queues) ≡ set (contents ws .queues) tag (queueAt after P) =
       join-sets tag p (contents ws .queues) (omega (arith, queue-count ws)) ∙
-      ap (λ l. set (contents ws .queues) tag (l ++ (p ∷ []))) (queue-tagged-at ws tag tagged) ∙ ap (set (contents ws .queues) tag) (sym joined-queue) in
+      ap (λ l. set (contents ws .queues) tag (l ++ (p ∷ []))) (queue-tagged-at ws tag tagged) ∙
+      ap (set (contents ws .queues) tag) (sym joined-queue) in
       rw q (shifted-become ws after tag 0 1 k tagged s (omega arith) (λ i h.
-      word-other placed (lengthsAt + P) v i (λ e. omega arith) ∙ w .above i (omega (arith, lengths-most ws P 64 small, lengths-next ws P, ap (lengthsBelow ws) (one-more P))) ∙ u .above i (omega arith))))
+      word-other placed (lengthsAt + P) v i (λ e. omega arith) ∙
+      w .above i (omega (arith, lengths-most ws P 64 small, lengths-next ws P, ap (lengthsBelow ws) (one-more P))) ∙
+      u .above i (omega arith))))
     where
       one-more : (n : ℕ) → n + 1 ≡ suc n
       one-more n = omega arith
@@ -109,7 +117,8 @@ module _ (ws up placed : List ℕ) (tag : ℕ) (p : Packet) (k : Fitting ws) (ta
 -- the head of a queue goes
 module _ (ws down : List ℕ) (tag : ℕ) (k : Fitting ws) (tagged : tag ≤ largestFactor (settingsAt ws))
     (some-wait : 1 ≤ word ws (lengthsAt + placeOf (turnsAt ws) tag))
-    (at end v : ℕ) (at-is : at ≡ packetsAt + 4 * lengthsBelow ws (placeOf (turnsAt ws) tag)) (end-is : end ≡ packetsAt + 4 * lengthsBelow ws 64)
+    (at end v : ℕ) (at-is : at ≡ packetsAt + 4 * lengthsBelow ws (placeOf (turnsAt ws) tag))
+    (end-is : end ≡ packetsAt + 4 * lengthsBelow ws 64)
     (u : MovedDown ws down at end) (v-is : v + 1 ≡ word down (lengthsAt + placeOf (turnsAt ws) tag)) where
   beheaded : List ℕ
   beheaded = set down (lengthsAt + placeOf (turnsAt ws) tag) v
@@ -128,7 +137,8 @@ module _ (ws down : List ℕ) (tag : ℕ) (k : Fitting ws) (tagged : tag ≤ lar
       record {
         same-length = length-set down (lengthsAt + P) v ∙ u .same-length;
         tables = λ i h q. word-other down (lengthsAt + P) v i q ∙ u .below i (omega arith);
-        count = (let c = word-same down (lengthsAt + P) v (lengthsAt + P) (omega (arith, k .enough, u .same-length)) refl in let d = u .below (lengthsAt + P) (omega arith) in omega arith);
+        count = (let c = word-same down (lengthsAt + P) v (lengthsAt + P) (omega (arith, k .enough, u .same-length)) refl in
+            let d = u .below (lengthsAt + P) (omega arith) in omega arith);
         before = λ i h q. word-other down (lengthsAt + P) v i (λ e. omega arith) ∙ u .below i (omega arith);
         later = λ i j a b e.
             word-other down (lengthsAt + P) v j (λ q. omega arith) ∙ u .moved j (omega arith) (omega arith) ∙
@@ -163,6 +173,7 @@ module _ (ws down : List ℕ) (tag : ℕ) (k : Fitting ws) (tagged : tag ≤ lar
       let s = behead-shift in
       let t = total-moved ws beheaded P 1 0 small s in
       let l = lengths-most ws P 64 small in
-      let q : drop 1 (getD (contents ws .queues) tag []) ≡ queueAt beheaded P = ap (drop 1) (queue-tagged-at ws tag tagged) ∙ sym behead-queue in
+      let q : drop 1 (getD (contents ws .queues) tag []) ≡ queueAt beheaded P = ap (drop 1) (queue-tagged-at ws tag tagged) ∙
+      sym behead-queue in
       rw q (shifted-become ws beheaded tag 1 0 k tagged s (omega (arith, k .total)) (λ i h.
       unstored i (omega arith) ∙ u .above i (omega arith) (omega arith))))

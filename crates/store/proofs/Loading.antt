@@ -1,5 +1,5 @@
 -- Taking the head of the lowest-tagged queue onto the link.
-use Prim.Native.Nat.{ℕ, suc, _+_, _*_, _-_, _≤_, _<_}
+use Prim.Native.Nat.{ℕ, suc, _+_, _*_, _≤_, _<_}
 use mathlib.Core.Path.{_≡_, refl, sym, ap, _∙_}
 use mathlib.Core.Bool.{true}
 use mathlib.Core.List.{List, []}
@@ -84,7 +84,8 @@ same-waiting ws Q e = rw e (omega arith)
 unchanged : (ws : List ℕ) {box : Box} → Fitting ws → contents ws ≡ box → Become ws ws box
 unchanged ws k e = record { fitting = k; stands-for = e; same-length = refl; beyond = λ i h. refl }
 
-same-box : (box : Box) → queuesTaken (box .link) (box .queues) ≡ box .queues → linkTaken (box .link) (box .queues) ≡ box .link → box ≡ loadedBox box
+same-box : (box : Box) → queuesTaken (box .link) (box .queues) ≡ box .queues → linkTaken (box .link) (box .queues) ≡ box .link
+    → box ≡ loadedBox box
 unfolding loadedBox withLink withQueues
 same-box box a b =
     sym (ap (λ q. withLink (withQueues box q) (linkTaken (box .link) (box .queues))) a ∙ ap (withLink (withQueues box (box .queues))) b)
@@ -104,14 +105,16 @@ pub head-at : (ws : List ℕ) (tag place below : ℕ) → place ≡ placeOf (tur
     → packetsAt + 4 * below ≡ startOf ws (placeOf (turnsAt ws) tag)
 head-at ws tag place below q l = ap (λ m. packetsAt + 4 * m) (l ∙ ap (lengthsBelow ws) q) ∙ sym (start-is ws (placeOf (turnsAt ws) tag))
 
-pub head-facts : (ws : List ℕ) (tag : ℕ) → soundWords ws ≡ true → tag ≡ lowestTag (contents ws .queues) → tag ≤ largestFactor (settingsAt ws) → Head ws tag
+pub head-facts : (ws : List ℕ) (tag : ℕ) → soundWords ws ≡ true → tag ≡ lowestTag (contents ws .queues)
+    → tag ≤ largestFactor (settingsAt ws) → Head ws tag
 head-facts ws tag e t h =
     (let k = sound-fitting ws e in
     let P = placeOf (turnsAt ws) tag in
     let small = place-below (turnsAt ws) tag in
     let qs = contents ws .queues in
     let w0 : 1 ≤ length (getD qs (lowestTag qs) []) = take-head qs noPacket (omega (arith, tags ws)) .1 in
-    let w1 : length (getD qs (lowestTag qs) []) ≡ word ws (lengthsAt + P) = ap (λ n. length (getD qs n [])) (sym t) ∙ waiting-length ws tag h in
+    let w1 : length (getD qs (lowestTag qs) []) ≡ word ws (lengthsAt + P) = ap (λ n. length (getD qs n [])) (sym t) ∙
+    waiting-length ws tag h in
     let w : 1 ≤ word ws (lengthsAt + P) = omega arith in
     let kept = sound-queues ws e .tagged tag h (omega (arith, k .largest)) .kept in
     let z : startOf ws P + 4 * 0 ≡ startOf ws P = omega arith in
@@ -129,7 +132,8 @@ pub busy-become : (ws : List ℕ) → Fitting ws → (word ws leftAt ≡ 0 → �
 busy-become ws k e = unchanged ws k (carried-box (contents ws) (packetAt ws linkAt) (word ws leftAt) (link-busy ws e))
 
 -- where nothing waits the box stays
-pub idle-become : (ws : List ℕ) → Fitting ws → word ws leftAt ≡ 0 → largestFactor (settingsAt ws) < lowestTag (contents ws .queues) → Become ws ws (loadedBox (contents ws))
+pub idle-become : (ws : List ℕ) → Fitting ws → word ws leftAt ≡ 0 → largestFactor (settingsAt ws) < lowestTag (contents ws .queues)
+    → Become ws ws (loadedBox (contents ws))
 idle-become ws k e h = unchanged ws k (idle-box (contents ws) (link-free ws e) (omega (arith, tags ws)))
 
 -- behead, then write the link: the box is loaded
@@ -150,7 +154,8 @@ loaded-become ws mid after tag p e t h f a b c =
     let head : lowestHead qs ≡ some p =
     take-head qs noPacket (omega arith) .0 ∙ ap (λ n. some (getD (getD qs n []) 0 noPacket)) (sym t) ∙
     ap (λ l. some (getD l 0 noPacket)) (queue-tagged-at ws tag h) ∙ ap some (first-read ws P (k .waits) ∙ sym a) in
-    let l : linkOf (p .units) p ≡ linkTaken (contents ws .link) qs = link-carries (p .units) p u ∙ sym (taken-link (contents ws .link) qs p free-link head) in
+    let l : linkOf (p .units) p ≡ linkTaken (contents ws .link) qs = link-carries (p .units) p u ∙
+    sym (taken-link (contents ws .link) qs p free-link head) in
     let whole : withLink (contents mid) (linkOf (p .units) p) ≡ loadedBox (contents ws) =
     ap (λ x. withLink x (linkOf (p .units) p)) (b .stands-for) ∙ ap (withLink (withQueues (contents ws) Q)) l ∙
     loaded-is ws Q (sym (taken-queues (contents ws .link) qs free-link ∙ q)) in

@@ -26,11 +26,16 @@ pub record Shifted (ws after : List ℕ) (place less more : ℕ) : Type 0 where
   pub tables : (i : ℕ) → i < packetsAt → (i ≡ lengthsAt + place → ⊥) → word after i ≡ word ws i
   pub count : word after (lengthsAt + place) + less ≡ word ws (lengthsAt + place) + more
   pub before : (i : ℕ) → packetsAt ≤ i → i < startOf ws place → word after i ≡ word ws i
-  pub later : (i j : ℕ) → startOf ws (suc place) ≤ i → i < packetsAt + 4 * lengthsBelow ws 64 → j + 4 * less ≡ i + 4 * more → word after j ≡ word ws i
+  pub later : (i j : ℕ) → startOf ws (suc place) ≤ i → i < packetsAt + 4 * lengthsBelow ws 64 → j + 4 * less ≡ i + 4 * more
+      → word after j ≡ word ws i
 
 pub lengths-rise : (ws : List ℕ) (p n : ℕ) → p ≤ n → lengthsBelow ws p ≤ lengthsBelow ws n
 lengths-rise ws p n h =
-    elim (ℕ-discrete p n) [ yes q ↦ (let e = ap (lengthsBelow ws) q in omega arith) | no q ↦ omega (arith, lengths-most ws p n (omega arith)) ]
+    elim (ℕ-discrete p n) [
+      | yes q ↦ (let e = ap (lengthsBelow ws) q in omega arith)
+      | no q ↦ omega
+          (arith, lengths-most ws p n (omega arith))
+    ]
 
 pub lengths-next : (ws : List ℕ) (p : ℕ) → lengthsBelow ws (suc p) ≡ lengthsBelow ws p + word ws (lengthsAt + p)
 unfolding lengthsBelow
@@ -134,7 +139,8 @@ module _ (ws after : List ℕ) (tag less more : ℕ) (k : Fitting ws) (tagged : 
       (let t = turnsAt ws in
       let r = largestFactor (settingsAt ws) in
       rw (shift-settings, shift-turns)
-      (ap (every (λ w. eqb w 0)) (series-same (λ j. word after (lengthsAt + placeOf t j)) (λ j. word ws (lengthsAt + placeOf t j)) 1 (suc r) (suc r) (63 - r) (λ i h.
+      (ap (every (λ w. eqb w 0)) (series-same (λ j. word after (lengthsAt + placeOf t j)) (λ j. word ws (lengthsAt + placeOf t j)) 1 (suc r)
+      (suc r) (63 - r) (λ i h.
       (let j = suc r + 1 * i in
       s .tables (lengthsAt + placeOf t j) (omega (arith, place-below t j))
       (λ q. places-differ t j tag (omega (arith, k .largest)) (omega (arith, k .largest)) (λ e. omega arith) (omega arith))))) ∙

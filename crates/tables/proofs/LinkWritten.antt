@@ -18,7 +18,8 @@ use Rattle.words.specs.Changes.{PacketPut}
 use Rattle.words.proofs.Storing.{word-same}
 
 -- Four words of the link that are 0 are a stretch of zeros.
-four-zeros : (ws : List ℕ) → word ws linkAt ≡ 0 → word ws (linkAt + 1) ≡ 0 → word ws (linkAt + 2) ≡ 0 → word ws (linkAt + 3) ≡ 0 → zeros ws linkAt (lengthsAt - linkAt) ≡ true
+four-zeros : (ws : List ℕ) → word ws linkAt ≡ 0 → word ws (linkAt + 1) ≡ 0 → word ws (linkAt + 2) ≡ 0 → word ws (linkAt + 3) ≡ 0
+    → zeros ws linkAt (lengthsAt - linkAt) ≡ true
 unfolding zeros series every
 four-zeros ws a b c d = rw (a, b, c, d)
 

@@ -110,7 +110,8 @@ image-new D M fs h =
 
 -- what opening writes is a new box
 pub opening-writes : (D M : ℕ) (fs ws cleared-words : List ℕ) → length fs ≤ 8 → cleared-words ≡ cleared packetsAt ws
-    → take factorsAt (set (set (set cleared-words intervalAt D) cycleAt M) classesAt (length fs)) ++ fs ++ drop (factorsAt + length fs) (set (set (set cleared-words intervalAt D) cycleAt M) classesAt (length fs))
+    → take factorsAt (set (set (set cleared-words intervalAt D) cycleAt M) classesAt (length fs)) ++ fs ++
+    drop (factorsAt + length fs) (set (set (set cleared-words intervalAt D) cycleAt M) classesAt (length fs))
     ≡ put (newBox (asked D M fs)) ws
 unfolding put cleared
 opening-writes D M fs ws l h e =
@@ -120,7 +121,8 @@ opening-writes D M fs ws l h e =
     let X : List ℕ = D ∷ M ∷ k ∷ (z ++ R) in
     let x : set (set (set l intervalAt D) cycleAt M) classesAt k ≡ X = ap (λ t. set (set (set t intervalAt D) cycleAt M) classesAt k) e in
     let d : drop (factorsAt + k) X ≡ replicate (packetsAt - factorsAt - k) 0 ++ R =
-    sym (drop-drop k factorsAt X) ∙ drop-append-le k z R (rw (length-replicate {A = ℕ} (packetsAt - factorsAt) 0) (omega arith)) ∙ ap (λ t. t ++ R) (drop-zeros k (packetsAt - factorsAt) (omega arith)) in
+    sym (drop-drop k factorsAt X) ∙ drop-append-le k z R (rw (length-replicate {A = ℕ} (packetsAt - factorsAt) 0) (omega arith)) ∙
+    ap (λ t. t ++ R) (drop-zeros k (packetsAt - factorsAt) (omega arith)) in
     let i = image-new D M fs h in
     let n : length (image (newBox (asked D M fs))) ≡ packetsAt = ap length i ∙ size D M fs h in
     ap (λ t. take factorsAt t ++ fs ++ drop (factorsAt + k) t) x ∙ ap (λ t. (D ∷ M ∷ k ∷ []) ++ fs ++ t) d ∙
@@ -128,8 +130,12 @@ opening-writes D M fs ws l h e =
     ap (λ t. (D ∷ M ∷ k ∷ []) ++ t) (sym (append-assoc fs (replicate (packetsAt - factorsAt - k) 0) R)) ∙
     append-same (sym i) (ap (λ m. drop m ws) (sym n)))
   where
-    size : (D M : ℕ) (fs : List ℕ) → length fs ≤ 8 → length ((D ∷ M ∷ length fs ∷ []) ++ (fs ++ replicate (packetsAt - factorsAt - length fs) 0)) ≡ packetsAt
-    size D M fs h = rw (length-append fs (replicate (packetsAt - factorsAt - length fs) 0), length-replicate {A = ℕ} (packetsAt - factorsAt - length fs) 0) (omega arith)
+    size : (D M : ℕ) (fs : List ℕ) → length fs ≤ 8 → length
+        ((D ∷ M ∷ length fs ∷ []) ++ (fs ++ replicate (packetsAt - factorsAt - length fs) 0)) ≡ packetsAt
+    size D M fs h = rw (
+      length-append fs (replicate (packetsAt - factorsAt - length fs) 0),
+      length-replicate {A = ℕ} (packetsAt - factorsAt - length fs) 0,
+    ) (omega arith)
 
 no-packets : (n : ℕ) → flatten (replicate {A = List Packet} n []) ≡ []
 unfolding flatten

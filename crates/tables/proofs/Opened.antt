@@ -23,7 +23,8 @@ isDone Opened.OffRange = false
 isDone Opened.TooShort = false
 
 -- An opening that is answered 0 had settings that are allowed and words enough.
-done-says : (set : Settings) (size lent : ℕ) → openingAnswer size lent set ≡ Opened.Done → (settingsAllowed set ≡ true) × (ltb lent size ≡ false)
+done-says : (set : Settings) (size lent : ℕ) → openingAnswer size lent set ≡ Opened.Done
+    → (settingsAllowed set ≡ true) × (ltb lent size ≡ false)
 unfolding openingAnswer
 done-says set size lent = go (settingsAllowed set) (ltb lent size)
   where

@@ -11,7 +11,7 @@ use Rattle.laws.specs.Series.{series, series-same, series-last, series-set, ser
 use Rattle.meaning.specs.declared.Standing.{Standing}
 use Rattle.meaning.specs.Box.{connection}
 use Rattle.meaning.specs.Calls.{withStanding}
-use Rattle.words.specs.Places.{word, intervalAt, classesAt, factorsAt, rowCountAt, rowsAt, counterAt, acceptedAt, leftAt, linkAt, lengthsAt}
+use Rattle.words.specs.Places.{word, rowCountAt, rowsAt, counterAt, acceptedAt}
 use Rattle.words.specs.Contents.{contents, standings, standingAt}
 use Rattle.words.specs.Sound.{zeros, Fitting}
 use Rattle.words.specs.Changes.{Become}
@@ -25,13 +25,15 @@ use Rattle.words.proofs.TableChange.{Only, link-stays, link-stays-clear, queues
 -- Rows that change alone become the connections that they are then read as.
 pub rows-become : (ws after : List ℕ) → Fitting ws → length after ≡ length ws
     → ((i : ℕ) → i < rowCountAt → word after i ≡ word ws i) → ((i : ℕ) → counterAt ≤ i → word after i ≡ word ws i)
-    → word after rowCountAt ≤ 32 → zeros after (rowsAt + 6 * word after rowCountAt) (counterAt - (rowsAt + 6 * word after rowCountAt)) ≡ true
+    → word after rowCountAt ≤ 32 → zeros after (rowsAt + 6 * word after rowCountAt) (counterAt - (rowsAt + 6 * word after rowCountAt))
+    ≡ true
     → Become ws after (withStanding (contents ws) (standings after))
 unfolding withStanding
 rows-become ws after k l near far n z =
     (let o : Only ws after rowCountAt counterAt = record { same-length = l; kept = λ i h. split i h } in
     let c = far counterAt (omega arith) in
-    table-become ws after rowCountAt counterAt k o (standings after) (contents ws .counter) (contents ws .accepted) (contents ws .link) (contents ws .queues)
+    table-become ws after rowCountAt counterAt k o (standings after) (contents ws .counter) (contents ws .accepted) (contents ws .link)
+    (contents ws .queues)
     (omega arith) (omega arith) (n, z) (link-stays-clear ws after rowCountAt counterAt k o (omega arith))
     (untagged-stays ws after rowCountAt counterAt k o (omega arith) (omega arith) c) refl (c ∙ sym (counter-word ws))
     (far acceptedAt (omega arith) ∙ sym (accepted-word ws)) (link-stays ws after rowCountAt counterAt k o (omega arith))
@@ -45,20 +47,28 @@ rows-become ws after k l near far n z =
         ]
 
 row-is : (ws after : List ℕ) (n next credit : ℕ) → 1 ≤ n → n ≤ word ws rowCountAt
-    → word after (rowsAt - 6 + 6 * n) ≡ word ws (rowsAt - 6 + 6 * n) → word after ((rowsAt - 6 + 6 * n) + 1) ≡ word ws ((rowsAt - 6 + 6 * n) + 1)
-    → word after ((rowsAt - 6 + 6 * n) + 2) ≡ word ws ((rowsAt - 6 + 6 * n) + 2) → word after ((rowsAt - 6 + 6 * n) + 3) ≡ word ws ((rowsAt - 6 + 6 * n) + 3)
+    → word after (rowsAt - 6 + 6 * n) ≡ word ws (rowsAt - 6 + 6 * n)
+    → word after ((rowsAt - 6 + 6 * n) + 1) ≡ word ws ((rowsAt - 6 + 6 * n) + 1)
+    → word after ((rowsAt - 6 + 6 * n) + 2) ≡ word ws ((rowsAt - 6 + 6 * n) + 2)
+    → word after ((rowsAt - 6 + 6 * n) + 3) ≡ word ws ((rowsAt - 6 + 6 * n) + 3)
     → word after ((rowsAt - 6 + 6 * n) + 4) ≡ next → word after ((rowsAt - 6 + 6 * n) + 5) ≡ credit
-    → standingAt after (rowsAt - 6 + 6 * n) ≡ record { asked = connection (contents ws) n; allowance = record { next = next; credit = credit } }
+    → standingAt after (rowsAt - 6 + 6 * n) ≡ record {
+      asked = connection (contents ws) n;
+      allowance = record { next = next; credit = credit };
+    }
 unfolding standingAt
 row-is ws after n next credit h l a b c d e f = rw (a, b, c, d, e, f, connection-at ws n h l)
 
 -- one row of the connections is another
 one-row : (ws after : List ℕ) (n next credit : ℕ) → 1 ≤ n → n ≤ word ws rowCountAt → word after rowCountAt ≡ word ws rowCountAt
-    → word after (rowsAt - 6 + 6 * n) ≡ word ws (rowsAt - 6 + 6 * n) → word after ((rowsAt - 6 + 6 * n) + 1) ≡ word ws ((rowsAt - 6 + 6 * n) + 1)
-    → word after ((rowsAt - 6 + 6 * n) + 2) ≡ word ws ((rowsAt - 6 + 6 * n) + 2) → word after ((rowsAt - 6 + 6 * n) + 3) ≡ word ws ((rowsAt - 6 + 6 * n) + 3)
+    → word after (rowsAt - 6 + 6 * n) ≡ word ws (rowsAt - 6 + 6 * n)
+    → word after ((rowsAt - 6 + 6 * n) + 1) ≡ word ws ((rowsAt - 6 + 6 * n) + 1)
+    → word after ((rowsAt - 6 + 6 * n) + 2) ≡ word ws ((rowsAt - 6 + 6 * n) + 2)
+    → word after ((rowsAt - 6 + 6 * n) + 3) ≡ word ws ((rowsAt - 6 + 6 * n) + 3)
     → word after ((rowsAt - 6 + 6 * n) + 4) ≡ next → word after ((rowsAt - 6 + 6 * n) + 5) ≡ credit
     → ((i : ℕ) → i < (rowsAt - 6 + 6 * n) → word after i ≡ word ws i) → ((i : ℕ) → (rowsAt - 6 + 6 * n) + 6 ≤ i → word after i ≡ word ws i)
-    → standings after ≡ set (contents ws .standing) (n - 1) (record { asked = connection (contents ws) n; allowance = record { next = next; credit = credit } })
+    → standings after ≡ set (contents ws .standing) (n - 1)
+    (record { asked = connection (contents ws) n; allowance = record { next = next; credit = credit } })
 unfolding standings contents
 one-row ws after n next credit h l m a b c d e f below above =
     (let z = standingAt ws 0 in
@@ -72,12 +82,14 @@ one-row ws after n next credit h l m a b c d e f below above =
       | no w ↦ standing-same ws after (rowsAt + 6 * i) (λ j u v. above j (omega arith))
     ]) ∙
     ap (λ s. set (series F 1 0 (word ws rowCountAt)) (n - 1) s) (ap (standingAt after) q ∙ row-is ws after n next credit h l a b c d e f) ∙
-    ap (λ s. set s (n - 1) (record { asked = connection (contents ws) n; allowance = record { next = next; credit = credit } })) (sym (series-unit (standingAt ws) 6 rowsAt (word ws rowCountAt) z)))
+    ap (λ s. set s (n - 1) (record { asked = connection (contents ws) n; allowance = record { next = next; credit = credit } }))
+    (sym (series-unit (standingAt ws) 6 rowsAt (word ws rowCountAt) z)))
 
 -- the allowance of one connection
 pub allowance-become : (ws : List ℕ) (n next credit : ℕ) → Fitting ws → 1 ≤ n → n ≤ word ws rowCountAt
     → Become ws (set (set ws ((rowsAt - 6 + 6 * n) + 4) next) ((rowsAt - 6 + 6 * n) + 5) credit)
-    (withStanding (contents ws) (set (contents ws .standing) (n - 1) (record { asked = connection (contents ws) n; allowance = record { next = next; credit = credit } })))
+    (withStanding (contents ws) (set (contents ws .standing) (n - 1)
+    (record { asked = connection (contents ws) n; allowance = record { next = next; credit = credit } })))
 allowance-become ws n next credit k h l =
     (let at = (rowsAt - 6 + 6 * n) in
     let mid = set ws (at + 4) next in
@@ -87,11 +99,15 @@ allowance-become ws n next credit k h l =
     let e : (i : ℕ) → (i ≡ at + 4 → ⊥) → (i ≡ at + 5 → ⊥) → word after i ≡ word ws i =
     λ i a b. word-other mid (at + 5) credit i b ∙ word-other ws (at + 4) next i a in
     let c = e rowCountAt (λ q. omega arith) (λ q. omega arith) in
-    let w4 : word after (at + 4) ≡ next = word-other mid (at + 5) credit (at + 4) (λ q. omega arith) ∙ word-same ws (at + 4) next (at + 4) (omega (arith, k .enough, k .rows)) refl in
+    let w4 : word after (at + 4) ≡ next = word-other mid (at + 5) credit (at + 4) (λ q. omega arith) ∙
+    word-same ws (at + 4) next (at + 4) (omega (arith, k .enough, k .rows)) refl in
     let w5 : word after (at + 5) ≡ credit = word-same mid (at + 5) credit (at + 5) (omega (arith, k .enough, k .rows)) refl in
-    let b = rows-become ws after k la (λ i g. e i (λ q. omega arith) (λ q. omega arith)) (λ i g. e i (λ q. omega (arith, k .rows)) (λ q. omega (arith, k .rows)))
-    (omega (arith, k .rows)) (rw c (zeros-same ws after (rowsAt + 6 * word ws rowCountAt) (counterAt - (rowsAt + 6 * word ws rowCountAt)) (λ i x y. e i (λ q. omega arith) (λ q. omega arith)) ∙ k .rows-clear)) in
-    rw (← (one-row ws after n next credit h l c (e at (λ q. omega arith) (λ q. omega arith)) (e (at + 1) (λ q. omega arith) (λ q. omega arith))
+    let b = rows-become ws after k la (λ i g. e i (λ q. omega arith) (λ q. omega arith))
+    (λ i g. e i (λ q. omega (arith, k .rows)) (λ q. omega (arith, k .rows)))
+    (omega (arith, k .rows)) (rw c (zeros-same ws after (rowsAt + 6 * word ws rowCountAt) (counterAt - (rowsAt + 6 * word ws rowCountAt))
+    (λ i x y. e i (λ q. omega arith) (λ q. omega arith)) ∙ k .rows-clear)) in
+    rw (← (one-row ws after n next credit h l c (e at (λ q. omega arith) (λ q. omega arith))
+    (e (at + 1) (λ q. omega arith) (λ q. omega arith))
     (e (at + 2) (λ q. omega arith) (λ q. omega arith)) (e (at + 3) (λ q. omega arith) (λ q. omega arith)) w4 w5
     (λ i x. e i (λ q. omega arith) (λ q. omega arith)) (λ i x. e i (λ q. omega arith) (λ q. omega arith)))) b)
 
@@ -121,9 +137,11 @@ row-stored ws at a b c d e f h =
     let o1 : (i : ℕ) → (i ≡ at → ⊥) → word w1 i ≡ word ws i = λ i q. word-other ws at a i q in
     let p5 : word w6 (at + 5) ≡ f = word-same w5 (at + 5) f (at + 5) (omega arith) refl in
     let p4 : word w6 (at + 4) ≡ e = o6 (at + 4) (λ q. omega arith) ∙ word-same w4 (at + 4) e (at + 4) (omega arith) refl in
-    let p3 : word w6 (at + 3) ≡ d = o6 (at + 3) (λ q. omega arith) ∙ o5 (at + 3) (λ q. omega arith) ∙ word-same w3 (at + 3) d (at + 3) (omega arith) refl in
+    let p3 : word w6 (at + 3) ≡ d = o6 (at + 3) (λ q. omega arith) ∙ o5 (at + 3) (λ q. omega arith) ∙
+    word-same w3 (at + 3) d (at + 3) (omega arith) refl in
     let p2 : word w6 (at + 2) ≡ c =
-    o6 (at + 2) (λ q. omega arith) ∙ o5 (at + 2) (λ q. omega arith) ∙ o4 (at + 2) (λ q. omega arith) ∙ word-same w2 (at + 2) c (at + 2) (omega arith) refl in
+    o6 (at + 2) (λ q. omega arith) ∙ o5 (at + 2) (λ q. omega arith) ∙ o4 (at + 2) (λ q. omega arith) ∙
+    word-same w2 (at + 2) c (at + 2) (omega arith) refl in
     let p1 : word w6 (at + 1) ≡ b =
     o6 (at + 1) (λ q. omega arith) ∙ o5 (at + 1) (λ q. omega arith) ∙ o4 (at + 1) (λ q. omega arith) ∙ o3 (at + 1) (λ q. omega arith) ∙
     word-same w1 (at + 1) b (at + 1) (omega arith) refl in
@@ -134,9 +152,11 @@ row-stored ws at a b c d e f h =
       same-length = l6;
       row = rw (p0, p1, p2, p3, p4, p5);
       below = λ i g.
-          o6 i (λ q. omega arith) ∙ o5 i (λ q. omega arith) ∙ o4 i (λ q. omega arith) ∙ o3 i (λ q. omega arith) ∙ o2 i (λ q. omega arith) ∙ o1 i (λ q. omega arith);
+          o6 i (λ q. omega arith) ∙ o5 i (λ q. omega arith) ∙ o4 i (λ q. omega arith) ∙ o3 i (λ q. omega arith) ∙ o2 i (λ q. omega arith) ∙
+          o1 i (λ q. omega arith);
       above = λ i g.
-          o6 i (λ q. omega arith) ∙ o5 i (λ q. omega arith) ∙ o4 i (λ q. omega arith) ∙ o3 i (λ q. omega arith) ∙ o2 i (λ q. omega arith) ∙ o1 i (λ q. omega arith);
+          o6 i (λ q. omega arith) ∙ o5 i (λ q. omega arith) ∙ o4 i (λ q. omega arith) ∙ o3 i (λ q. omega arith) ∙ o2 i (λ q. omega arith) ∙
+          o1 i (λ q. omega arith);
     })
 
 zeros-later : (ws : List ℕ) (start skip n : ℕ) → zeros ws start (skip + n) ≡ true → zeros ws (start + skip) n ≡ true
@@ -147,17 +167,20 @@ zeros-later ws start skip n e =
     ap (λ x. eqb (word ws x) 0) q ∙ every-index (λ w. eqb w 0) (λ i. word ws i) 1 start (skip + n) e (skip + i) (omega arith)))
 
 more-rows : (ws after : List ℕ) (s : Standing) → word after rowCountAt ≡ suc (word ws rowCountAt)
-    → ((i : ℕ) → rowsAt ≤ i → i < rowsAt + 6 * word ws rowCountAt → word after i ≡ word ws i) → standingAt after (rowsAt + 6 * word ws rowCountAt) ≡ s
+    → ((i : ℕ) → rowsAt ≤ i → i < rowsAt + 6 * word ws rowCountAt → word after i ≡ word ws i)
+    → standingAt after (rowsAt + 6 * word ws rowCountAt) ≡ s
     → standings after ≡ contents ws .standing ++ (s ∷ [])
 unfolding standings contents
 more-rows ws after s n e r =
     ap (λ x. series (standingAt after) 6 rowsAt x) n ∙ series-last (standingAt after) 6 rowsAt (word ws rowCountAt) ∙
     ap (λ l. l ++ (standingAt after (rowsAt + 6 * word ws rowCountAt) ∷ []))
-    (series-same (standingAt after) (standingAt ws) 6 rowsAt rowsAt (word ws rowCountAt) (λ i h. standing-same ws after (rowsAt + 6 * i) (λ j a b. e j (omega arith) (omega arith)))) ∙
+    (series-same (standingAt after) (standingAt ws) 6 rowsAt rowsAt (word ws rowCountAt)
+    (λ i h. standing-same ws after (rowsAt + 6 * i) (λ j a b. e j (omega arith) (omega arith)))) ∙
     ap (λ x. series (standingAt ws) 6 rowsAt (word ws rowCountAt) ++ (x ∷ [])) r
 
 -- a connection more
-pub append-become : (ws mid : List ℕ) (s : Standing) (at v : ℕ) → Fitting ws → word ws rowCountAt < 32 → at ≡ rowsAt + 6 * word ws rowCountAt → v ≡ suc (word ws rowCountAt)
+pub append-become : (ws mid : List ℕ) (s : Standing) (at v : ℕ) → Fitting ws → word ws rowCountAt < 32
+    → at ≡ rowsAt + 6 * word ws rowCountAt → v ≡ suc (word ws rowCountAt)
     → RowPut ws mid at s → Become ws (set mid rowCountAt v) (withStanding (contents ws) (contents ws .standing ++ (s ∷ [])))
 append-become ws mid s at v k l a q w =
     (let after = set mid rowCountAt v in
@@ -167,10 +190,12 @@ append-become ws mid s at v k l a q w =
     let z0 : 6 + (counterAt - (rowsAt + 6 * suc n)) ≡ counterAt - (rowsAt + 6 * n) = omega arith in
     let z1 : rowsAt + 6 * n + 6 ≡ rowsAt + 6 * suc n = omega arith in
     let z : zeros ws (rowsAt + 6 * suc n) (counterAt - (rowsAt + 6 * suc n)) ≡ true =
-    sym (ap (λ x. zeros ws x (counterAt - (rowsAt + 6 * suc n))) z1) ∙ zeros-later ws (rowsAt + 6 * n) 6 (counterAt - (rowsAt + 6 * suc n)) (ap (zeros ws (rowsAt + 6 * n)) z0 ∙ k .rows-clear) in
+    sym (ap (λ x. zeros ws x (counterAt - (rowsAt + 6 * suc n))) z1) ∙
+    zeros-later ws (rowsAt + 6 * n) 6 (counterAt - (rowsAt + 6 * suc n)) (ap (zeros ws (rowsAt + 6 * n)) z0 ∙ k .rows-clear) in
     let b = rows-become ws after k (length-set mid rowCountAt v ∙ w .same-length) (λ i h. e i (λ x. omega arith) ∙ w .below i (omega arith))
     (λ i h. e i (λ x. omega arith) ∙ w .above i (omega arith)) (omega arith)
-    (rw c (zeros-same ws after (rowsAt + 6 * suc n) (counterAt - (rowsAt + 6 * suc n)) (λ i x y. e i (λ u. omega arith) ∙ w .above i (omega arith)) ∙ z)) in
+    (rw c (zeros-same ws after (rowsAt + 6 * suc n) (counterAt - (rowsAt + 6 * suc n))
+    (λ i x y. e i (λ u. omega arith) ∙ w .above i (omega arith)) ∙ z)) in
     let r : standingAt after (rowsAt + 6 * n) ≡ s =
     standing-same mid after (rowsAt + 6 * n) (λ j x y. e j (λ u. omega arith)) ∙ ap (standingAt mid) (sym a) ∙ w .row in
     rw (more-rows ws after s c (λ i x y. e i (λ u. omega arith) ∙ w .below i (omega arith)) r) at b)

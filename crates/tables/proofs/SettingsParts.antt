@@ -11,7 +11,9 @@ use Rattle.tables.specs.Opening.{asked}
 
 -- the test of settings, number by number
 pub settings-parts : (D M : ℕ) (fs : List ℕ)
-    → settingsAllowed (asked D M fs) ≡ (within 1 D 256 && (within 1 M 4096 && (leb 1 (length fs) && (leb (length fs) 8 && (risingAbove 0 fs &&
+    → settingsAllowed (asked D M fs) ≡ (within 1 D 256 &&
+    (within 1 M 4096 && (leb 1 (length fs) && (leb (length fs) 8 && (risingAbove 0 fs &&
     (leb (getD fs (length fs - 1) 0) 63 && leb (getD fs (length fs - 1) 0 * D) 1024))))))
-unfolding settingsAllowed intervalAllowed cycleAllowed classesAllowed largestBoundAllowed classCount largestFactor factor largestBound bound within
+unfolding settingsAllowed intervalAllowed cycleAllowed classesAllowed largestBoundAllowed classCount largestFactor factor largestBound bound
+    within
 settings-parts D M fs = simp and-assoc

@@ -16,7 +16,6 @@ use Rattle.laws.specs.Tests.{bool-cases}
 use Rattle.meaning.specs.Numbers.{largestFactor}
 use Rattle.meaning.specs.Queues.{turnAt, turned, tagZeroWaits}
 use Rattle.meaning.specs.declared.Packet.{Packet}
-use Rattle.meaning.specs.Box.{Box, waiting}
 use Rattle.words.specs.Places.{word, placeOf, intervalAt, counterAt, acceptedAt, leftAt, linkAt, lengthsAt}
 use Rattle.words.specs.Contents.{contents, settingsAt, linkOf, turnsAt, queueAt, queuesAt}
 use Rattle.words.specs.Sound.{linkClear, emptyFrom, untaggedEmpty, Fitting}
@@ -45,12 +44,14 @@ accepted-become ws v k =
     (let after = set ws acceptedAt v in
     let o = stored-only ws acceptedAt v in
     let c : word after counterAt ≡ word ws counterAt = o .kept counterAt (λ p q. omega arith) in
-    table-become ws after acceptedAt (acceptedAt + 1) k o (contents ws .standing) (contents ws .counter) v (contents ws .link) (contents ws .queues)
+    table-become ws after acceptedAt (acceptedAt + 1) k o (contents ws .standing) (contents ws .counter) v (contents ws .link)
+    (contents ws .queues)
     (omega arith) (omega arith) (rows-stay-clear ws after acceptedAt (acceptedAt + 1) k o (omega arith))
     (link-stays-clear ws after acceptedAt (acceptedAt + 1) k o (omega arith))
     (untagged-stays ws after acceptedAt (acceptedAt + 1) k o (omega arith) (omega arith) c)
     (rows-stay ws after acceptedAt (acceptedAt + 1) k o (omega arith)) (c ∙ counter-is ws)
-    (word-same ws acceptedAt v acceptedAt (omega (arith, k .enough)) refl) (link-stays ws after acceptedAt (acceptedAt + 1) k o (omega arith))
+    (word-same ws acceptedAt v acceptedAt (omega (arith, k .enough)) refl)
+    (link-stays ws after acceptedAt (acceptedAt + 1) k o (omega arith))
     (queues-stay ws after acceptedAt (acceptedAt + 1) k o (omega arith) (omega arith) c))
 
 -- A packet written on the link with its units left changes the words of the link alone.
@@ -62,7 +63,8 @@ link-only ws after left p w =
           elim (decLe lengthsAt i) [
             | yes a ↦ w .above i (omega arith) ∙ word-other ws leftAt left i (λ q. omega arith)
             | no a ↦
-                (let b : i < leftAt = not-within i h (omega arith) in w .below i (omega arith) ∙ word-other ws leftAt left i (λ q. omega arith))
+                (let b : i < leftAt = not-within i h (omega arith) in
+                w .below i (omega arith) ∙ word-other ws leftAt left i (λ q. omega arith))
           ];
     }
   where
@@ -70,14 +72,16 @@ link-only ws after left p w =
     not-within i h l = elim (decLe leftAt i) [ yes a ↦ absurd (h a l) | no a ↦ omega arith ]
 
 -- The link changes.
-pub link-become : (ws after : List ℕ) (left : ℕ) (p : Packet) → Fitting ws → PacketPut (set ws leftAt left) after linkAt p → linkClear after ≡ true
+pub link-become : (ws after : List ℕ) (left : ℕ) (p : Packet) → Fitting ws → PacketPut (set ws leftAt left) after linkAt p
+    → linkClear after ≡ true
     → Become ws after (withLink (contents ws) (linkOf left p))
 unfolding withLink
 link-become ws after left p k w c =
     (let o = link-only ws after left p w in
     let n : word after counterAt ≡ word ws counterAt = o .kept counterAt (λ x y. omega arith) in
     let l : word after leftAt ≡ left = w .below leftAt (omega arith) ∙ word-same ws leftAt left leftAt (omega (arith, k .enough)) refl in
-    table-become ws after leftAt lengthsAt k o (contents ws .standing) (contents ws .counter) (contents ws .accepted) (linkOf left p) (contents ws .queues)
+    table-become ws after leftAt lengthsAt k o (contents ws .standing) (contents ws .counter) (contents ws .accepted) (linkOf left p)
+    (contents ws .queues)
     (omega arith) (omega arith) (rows-stay-clear ws after leftAt lengthsAt k o (omega arith)) c
     (untagged-stays ws after leftAt lengthsAt k o (omega arith) (omega arith) n) (rows-stay ws after leftAt lengthsAt k o (omega arith))
     (n ∙ counter-is ws) (o .kept acceptedAt (λ x y. omega arith) ∙ accepted-is ws) (ap₂ linkOf l (w .packet))
@@ -114,12 +118,14 @@ unfolding turned series
 first-last f r = refl
 
 -- "every tag falls by one, the old 0 becomes rP"
-turned-series : {A : Type 0} (f : ℕ → List A) (r : ℕ) → f (suc r) ≡ f 0 → series (λ k. f (suc k)) 1 0 (suc r) ≡ turned (series f 1 0 (suc r))
+turned-series : {A : Type 0} (f : ℕ → List A) (r : ℕ) → f (suc r) ≡ f 0
+    → series (λ k. f (suc k)) 1 0 (suc r) ≡ turned (series f 1 0 (suc r))
 turned-series {A} f r e =
     (let g : ℕ → List A = λ k. f (suc k) in
     let z : 0 + 1 * r ≡ r = omega arith in
     series-last g 1 0 r ∙ ap (λ k. series g 1 0 r ++ (g k ∷ [])) z ∙ ap (λ q. series g 1 0 r ++ (q ∷ [])) e ∙
-    ap (λ l. l ++ (f 0 ∷ [])) (series-same g f 1 0 1 r (λ i h. (let y : suc (0 + 1 * i) ≡ 1 + 1 * i = omega arith in ap f y))) ∙ sym (first-last f r))
+    ap (λ l. l ++ (f 0 ∷ [])) (series-same g f 1 0 1 r (λ i h. (let y : suc (0 + 1 * i) ≡ 1 + 1 * i = omega arith in ap f y))) ∙
+    sym (first-last f r))
 
 first-empty : (q : List Packet) (qs : List (List Packet)) → tagZeroWaits (q ∷ qs) ≡ false → q ≡ []
 unfolding tagZeroWaits
@@ -129,7 +135,8 @@ first-empty (p ∷ q) qs e = absurd (true≢false e)
 zero-empty : (ws : List ℕ) → tagZeroWaits (contents ws .queues) ≡ false → queueAt ws (placeOf (turnsAt ws) 0) ≡ []
 unfolding contents queuesAt series
 zero-empty ws e =
-    first-empty (queueAt ws (placeOf (turnsAt ws) 0)) (series (λ k. queueAt ws (placeOf (turnsAt ws) k)) 1 1 (largestFactor (settingsAt ws))) e
+    first-empty (queueAt ws (placeOf (turnsAt ws) 0))
+    (series (λ k. queueAt ws (placeOf (turnsAt ws) k)) 1 1 (largestFactor (settingsAt ws))) e
 
 zero-length : (ws : List ℕ) → tagZeroWaits (contents ws .queues) ≡ false → word ws (lengthsAt + placeOf (turnsAt ws) 0) ≡ 0
 zero-length ws e = sym (length-queue ws (placeOf (turnsAt ws) 0)) ∙ ap length (zero-empty ws e)
@@ -139,7 +146,8 @@ past-last : (ws : List ℕ) → Fitting ws → tagZeroWaits (contents ws .queues
     → (k : ℕ) → largestFactor (settingsAt ws) < k → k ≤ 64 → word ws (lengthsAt + placeOf (turnsAt ws) k) ≡ 0
 past-last ws f z k h l =
     elim (decLe 64 k) [
-      | yes a ↦ (let e : k ≡ 64 = omega arith in ap (λ n. word ws (lengthsAt + placeOf (turnsAt ws) n)) e ∙ ap (λ p. word ws (lengthsAt + p)) (place-whole (turnsAt ws)) ∙ zero-length ws z)
+      | yes a ↦ (let e : k ≡ 64 = omega arith in ap (λ n. word ws (lengthsAt + placeOf (turnsAt ws) n)) e ∙
+          ap (λ p. word ws (lengthsAt + p)) (place-whole (turnsAt ws)) ∙ zero-length ws z)
       | no a ↦ untagged-zero ws (f .untagged) k h (omega arith)
     ]
 
@@ -172,8 +180,10 @@ module _ (ws : List ℕ) (v : ℕ) (k : Fitting ws) where
   counter-become qs u q =
       (let after = set ws counterAt v in
       let o = counted-only in
-      table-become ws after counterAt (counterAt + 1) k o (contents ws .standing) v (contents ws .accepted) (contents ws .link) qs (omega arith) (omega arith)
-      (rows-stay-clear ws after counterAt (counterAt + 1) k o (omega arith)) (link-stays-clear ws after counterAt (counterAt + 1) k o (omega arith)) u
+      table-become ws after counterAt (counterAt + 1) k o (contents ws .standing) v (contents ws .accepted) (contents ws .link) qs
+      (omega arith) (omega arith)
+      (rows-stay-clear ws after counterAt (counterAt + 1) k o (omega arith))
+      (link-stays-clear ws after counterAt (counterAt + 1) k o (omega arith)) u
       (rows-stay ws after counterAt (counterAt + 1) k o (omega arith)) (word-same ws counterAt v counterAt (omega (arith, k .enough)) refl)
       (o .kept acceptedAt (λ x y. omega arith) ∙ accepted-is ws) (link-stays ws after counterAt (counterAt + 1) k o (omega arith)) q)
 
@@ -181,26 +191,31 @@ module _ (ws : List ℕ) (v : ℕ) (k : Fitting ws) where
   unfolding turnsAt
   turns-after = rw (word-same ws counterAt v counterAt (omega (arith, k .enough)) refl, counted-only .kept intervalAt (λ x y. omega arith))
 
-  turned-untagged : turnsAt (set ws counterAt v) ≡ suc (turnsAt ws) → tagZeroWaits (contents ws .queues) ≡ false → untaggedEmpty (set ws counterAt v) ≡ true
+  turned-untagged : turnsAt (set ws counterAt v) ≡ suc (turnsAt ws) → tagZeroWaits (contents ws .queues) ≡ false
+      → untaggedEmpty (set ws counterAt v) ≡ true
   unfolding untaggedEmpty emptyFrom
   turned-untagged t z =
       (let r = largestFactor (settingsAt ws) in
       rw (counted-settings, t)
       (every-all (λ w. eqb w 0) (λ j. word (set ws counterAt v) (lengthsAt + placeOf (suc (turnsAt ws)) j)) 1 (suc r) (63 - r) (λ i h.
       (let j = suc r + 1 * i in
-      eq-eqb _ 0 (counted-far (lengthsAt + placeOf (suc (turnsAt ws)) j) (omega arith) ∙ ap (λ p. word ws (lengthsAt + p)) (place-turned (turnsAt ws) j) ∙
+      eq-eqb _ 0 (counted-far (lengthsAt + placeOf (suc (turnsAt ws)) j) (omega arith) ∙
+      ap (λ p. word ws (lengthsAt + p)) (place-turned (turnsAt ws) j) ∙
       past-last ws k z (suc j) (omega arith) (omega arith))))))
 
-  turned-queues : turnsAt (set ws counterAt v) ≡ suc (turnsAt ws) → tagZeroWaits (contents ws .queues) ≡ false → queuesAt (set ws counterAt v) ≡ turned (contents ws .queues)
+  turned-queues : turnsAt (set ws counterAt v) ≡ suc (turnsAt ws) → tagZeroWaits (contents ws .queues) ≡ false
+      → queuesAt (set ws counterAt v) ≡ turned (contents ws .queues)
   unfolding queuesAt contents
   turned-queues t z =
       (let r = largestFactor (settingsAt ws) in
       let f : ℕ → List Packet = λ j. queueAt ws (placeOf (turnsAt ws) j) in
       rw (counted-settings, t)
       (series-same (λ j. queueAt (set ws counterAt v) (placeOf (suc (turnsAt ws)) j)) (λ j. f (suc j)) 1 0 0 (suc r) (λ i h.
-      queue-same ws (set ws counterAt v) counted-far (placeOf (suc (turnsAt ws)) (0 + 1 * i)) ∙ ap (queueAt ws) (place-turned (turnsAt ws) (0 + 1 * i))) ∙
+      queue-same ws (set ws counterAt v) counted-far (placeOf (suc (turnsAt ws)) (0 + 1 * i)) ∙
+      ap (queueAt ws) (place-turned (turnsAt ws) (0 + 1 * i))) ∙
       turned-series f r
-      (queue-untagged ws (placeOf (turnsAt ws) (suc r)) (past-last ws k z (suc r) (omega arith) (omega (arith, k .largest))) ∙ sym (zero-empty ws z))))
+      (queue-untagged ws (placeOf (turnsAt ws) (suc r)) (past-last ws k z (suc r) (omega arith) (omega (arith, k .largest))) ∙
+      sym (zero-empty ws z))))
 
 turn-slot : (D n : ℕ) → turnAt D (suc n) ≡ true → suc n % D ≡ 0
 unfolding turnAt
@@ -224,9 +239,17 @@ unfolding contents
 queues-is ws = refl
 
 -- the box after a slot, where it is known whether a turn is due
-turn-box : (ws : List ℕ) (v : ℕ) (due : Bool) → Fitting ws → v ≡ suc (word ws counterAt) → turnAt (word ws intervalAt) (suc (word ws counterAt)) ≡ due
+turn-box : (ws : List ℕ) (v : ℕ) (due : Bool) → Fitting ws → v ≡ suc (word ws counterAt)
+    → turnAt (word ws intervalAt) (suc (word ws counterAt)) ≡ due
     → Become ws (set ws counterAt v)
-    (record { settings = contents ws .settings; standing = contents ws .standing; counter = v; accepted = contents ws .accepted; link = contents ws .link; queues = cond due (turned (contents ws .queues)) (contents ws .queues) })
+    (record {
+      settings = contents ws .settings;
+      standing = contents ws .standing;
+      counter = v;
+      accepted = contents ws .accepted;
+      link = contents ws .link;
+      queues = cond due (turned (contents ws .queues)) (contents ws .queues);
+    })
     → Become ws (set ws counterAt v) (raised (contents ws))
 unfolding raised contents settingsAt
 turn-box ws v due k e q b = rw (q, ← e) b
@@ -240,10 +263,12 @@ raise-become ws v k e z =
     ⊎-elim
     (λ (q : turnAt D (suc n) ≡ true).
     (let t = turns-after ws v k ∙ ap (λ m. m / D) e ∙ next-turn n D (k .interval) (turn-slot D n q) ∙ turns-is ws in
-    turn-box ws v true k e q (counter-become ws v k (turned (contents ws .queues)) (turned-untagged ws v k t (z q)) (turned-queues ws v k t (z q)))))
+    turn-box ws v true k e q (counter-become ws v k (turned (contents ws .queues)) (turned-untagged ws v k t (z q))
+    (turned-queues ws v k t (z q)))))
     (λ (q : turnAt D (suc n) ≡ false).
     (let t = turns-after ws v k ∙ ap (λ m. m / D) e ∙ no-turn n D (k .interval) (no-turn-slot D n q) ∙ turns-same-is ws in
     turn-box ws v false k e q
-    (counter-become ws v k (contents ws .queues) (untagged-same ws (set ws counterAt v) (counted-far ws v k) (counted-settings ws v k) t ∙ k .untagged)
+    (counter-become ws v k (contents ws .queues) (untagged-same ws (set ws counterAt v) (counted-far ws v k) (counted-settings ws v k) t ∙
+    k .untagged)
     (queues-same ws (set ws counterAt v) (counted-far ws v k) (counted-settings ws v k) t ∙ queues-is ws))))
     (bool-cases (turnAt D (suc n))))

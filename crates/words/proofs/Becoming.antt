@@ -1,4 +1,5 @@
--- Words that become those of a box: they are the box put into them, one change after another is one change, and a sound box makes them sound.
+-- Words that become those of a box: they are the box put into them, one change after another is one change, and a sound box makes them
+-- sound.
 use Prim.Native.Nat.{ℕ, _+_, _*_, _≤_}
 use mathlib.Core.Path.{_≡_, ap, _∙_}
 use mathlib.Core.Bool.{true}

@@ -4,8 +4,8 @@ use mathlib.Core.Path.{_≡_, refl, sym, ap, _∙_}
 use mathlib.Core.Bool.{true, cond, and-eq-true-iff}
 use mathlib.Core.List.{List, [], _∷_, _++_, map, flatten, append-assoc, append-nil}
 use native.Mathlib.Omega.{arith}
-use lib.ListN.{length, getD, take, drop, replicate, length-append, length-replicate, List·getD-eq-default, List·getD-append, List·getD-map, length-map}
-use lib.Seq.{take-suc, split-at, drop-at, drop-drop, getD-drop}
+use lib.ListN.{length, getD, take, drop, replicate, length-append, List·getD-eq-default, List·getD-append, List·getD-map, length-map}
+use lib.Seq.{take-suc, split-at, getD-drop}
 use lib.Dec.{eqb}
 use borrow.Author.Tests.{ne-eqb}
 use Rattle.laws.specs.Series.{series, length-series, getD-series, series-same, series-read, series-self, map-append, flatten-append, chunks-read, length-chunks, every-zeros}
@@ -77,7 +77,8 @@ link-size (carries p left) = refl
 -- The parts of words that contents put: every table where it stands, and the packets after them.
 record Parts (box : Box) (ws : List ℕ) : Type 0 where
   rest : List ℕ
-  settings-part : ws ≡ padded (factorsAt - intervalAt) (box .settings .interval ∷ box .settings .cycle ∷ length (box .settings .factors) ∷ []) ++ drop factorsAt ws
+  settings-part : ws ≡ padded (factorsAt - intervalAt)
+      (box .settings .interval ∷ box .settings .cycle ∷ length (box .settings .factors) ∷ []) ++ drop factorsAt ws
   factors-part : drop factorsAt ws ≡ padded (rowCountAt - factorsAt) (box .settings .factors) ++ drop rowCountAt ws
   row-count-part : drop rowCountAt ws ≡ padded (rowsAt - rowCountAt) (length (box .standing) ∷ []) ++ drop rowsAt ws
   rows-part : drop rowsAt ws ≡ padded (counterAt - rowsAt) (flatten (map standingWords (box .standing))) ++ drop counterAt ws
@@ -100,8 +101,16 @@ pub tables-fit : (box : Box) → Puttable box → Fit (tables box)
 unfolding Fit tables
 tables-fit box k =
     (let rows = length-chunks standingWords 6 standing-size (box .standing) in
-    let lengths : length (map (length {A = Packet}) (byPlace box)) ≡ 64 = length-map (byPlace box) length ∙ length-places box in
-    (omega arith, (omega (arith, k .classes), (omega arith, (omega (arith, rows, k .rows), (omega arith, (omega (arith, link-size (box .link)), (omega arith, tt))))))))
+    let lengths : length (map (length {A = Packet}) (byPlace box)) ≡ 64 = length-map (byPlace box) length ∙ length-places box in (
+      omega arith,
+      (
+        omega (arith, k .classes),
+        (
+          omega arith,
+          (omega (arith, rows, k .rows), (omega arith, (omega (arith, link-size (box .link)), (omega arith, tt)))),
+        ),
+      ),
+    ))
 
 -- Contents that are put have their parts in the words.
 put-parts : (box : Box) (ws : List ℕ) → Puttable box → Parts box (put box ws)
@@ -208,9 +217,11 @@ tag-read box ws parts k h =
 
 -- The entries of the first table: D, M and P.
 settings-found : (box : Box) (ws : List ℕ) → Parts box ws
-    → drop intervalAt ws ≡ (box .settings .interval ∷ box .settings .cycle ∷ length (box .settings .factors) ∷ []) ++ (replicate (factorsAt - intervalAt - 3) 0 ++ drop factorsAt ws)
+    → drop intervalAt ws ≡ (box .settings .interval ∷ box .settings .cycle ∷ length (box .settings .factors) ∷ []) ++
+    (replicate (factorsAt - intervalAt - 3) 0 ++ drop factorsAt ws)
 settings-found box ws k =
-    entries-found ws (box .settings .interval ∷ box .settings .cycle ∷ length (box .settings .factors) ∷ []) (drop factorsAt ws) intervalAt (factorsAt - intervalAt) (k .settings-part)
+    entries-found ws (box .settings .interval ∷ box .settings .cycle ∷ length (box .settings .factors) ∷ []) (drop factorsAt ws) intervalAt
+    (factorsAt - intervalAt) (k .settings-part)
 
 -- The number of rows is read.
 row-count-read : (box : Box) (ws : List ℕ) → Parts box ws → word ws rowCountAt ≡ length (box .standing)
@@ -221,7 +232,8 @@ row-count-read box ws k =
 -- The entries of the table of counts.
 counts-found : (box : Box) (ws : List ℕ) → Parts box ws
     → drop counterAt ws ≡ (box .counter ∷ box .accepted ∷ []) ++ (replicate (leftAt - counterAt - 2) 0 ++ drop leftAt ws)
-counts-found box ws k = entries-found ws (box .counter ∷ box .accepted ∷ []) (drop leftAt ws) counterAt (leftAt - counterAt) (k .counts-part)
+counts-found box ws k = entries-found ws (box .counter ∷ box .accepted ∷ []) (drop leftAt ws) counterAt (leftAt - counterAt)
+    (k .counts-part)
 
 -- The entries of the table of the link.
 link-found : (box : Box) (ws : List ℕ) → Parts box ws
@@ -237,7 +249,13 @@ settings-read box ws k =
     let d = word-at ws (box .settings .interval) _ intervalAt 0 first refl in
     let m = word-at ws (box .settings .cycle) _ intervalAt 1 first refl in
     let n = word-at ws (length fs) _ intervalAt 2 first refl in
-    rw (d, m, n, series-read ws fs _ factorsAt (entries-found ws fs (drop rowCountAt ws) factorsAt (rowCountAt - factorsAt) (k .factors-part))))
+    rw (
+      d,
+      m,
+      n,
+      series-read ws fs _ factorsAt (entries-found ws fs (drop rowCountAt ws) factorsAt (rowCountAt - factorsAt)
+          (k .factors-part)),
+    ))
 
 standings-read : (box : Box) (ws : List ℕ) → Parts box ws → standings ws ≡ box .standing
 unfolding standings
@@ -252,7 +270,8 @@ unfolding linkOf
 link-carries zero p h = absurd (omega arith)
 link-carries (suc n) p h = refl
 
-link-read : (l : Link) (ws r : List ℕ) → linkKept l ≡ true → drop leftAt ws ≡ linkWords l ++ r → linkOf (word ws leftAt) (packetAt ws linkAt) ≡ l
+link-read : (l : Link) (ws r : List ℕ) → linkKept l ≡ true → drop leftAt ws ≡ linkWords l ++ r
+    → linkOf (word ws leftAt) (packetAt ws linkAt) ≡ l
 unfolding linkWords linkOf linkKept
 link-read free ws r k e = rw (word-at ws 0 (linkWords free ++ r) leftAt 0 e refl)
 link-read (carries p left) ws r k e =
@@ -284,7 +303,14 @@ unfolding contents
 parts-contents box ws kept k =
     (let n = word-at ws (box .counter) _ counterAt 0 (counts-found box ws k) refl in
     let a = word-at ws (box .accepted) _ counterAt 1 (counts-found box ws k) refl in
-    rw (settings-read box ws k, standings-read box ws k, n, a, link-read (box .link) ws _ (kept .link) (link-found box ws k), queues-read box ws kept k))
+    rw (
+      settings-read box ws k,
+      standings-read box ws k,
+      n,
+      a,
+      link-read (box .link) ws _ (kept .link) (link-found box ws k),
+      queues-read box ws kept k,
+    ))
 
 -- contents that are put are read again
 pub contents-put : (box : Box) (ws : List ℕ) → Puttable box → contents (put box ws) ≡ box
@@ -299,13 +325,17 @@ unused-put box ws k =
     let p = word-at ws (length fs) _ intervalAt 2 (settings-found box ws k) refl in
     let m : length rows ≡ 6 * length (box .standing) = length-chunks standingWords 6 standing-size (box .standing) in
     rw (p, row-count-read box ws k, ← m)
-    (and-eq-true-iff (zeros ws (factorsAt + length fs) (rowCountAt - (factorsAt + length fs))) (zeros ws (rowsAt + length rows) (counterAt - (rowsAt + length rows))) .1
-    (rest-clear ws fs (drop rowCountAt ws) factorsAt rowCountAt (k .factors-part), rest-clear ws rows (drop counterAt ws) rowsAt counterAt (k .rows-part))))
+    (and-eq-true-iff (zeros ws (factorsAt + length fs) (rowCountAt - (factorsAt + length fs)))
+    (zeros ws (rowsAt + length rows) (counterAt - (rowsAt + length rows))) .1 (
+      rest-clear ws fs (drop rowCountAt ws) factorsAt rowCountAt (k .factors-part),
+      rest-clear ws rows (drop counterAt ws) rowsAt counterAt (k .rows-part),
+    )))
 
 link-put : (l : Link) (ws r : List ℕ) → linkKept l ≡ true → drop leftAt ws ≡ linkWords l ++ r → linkClear ws ≡ true
 unfolding linkWords linkClear linkKept
 link-put free ws r k e =
-    rw (word-at ws 0 (linkWords free ++ r) leftAt 0 e refl) (zeros-read ws r linkAt (lengthsAt - linkAt) (after-part ws (0 ∷ []) (0 ∷ 0 ∷ 0 ∷ 0 ∷ r) leftAt 1 e refl))
+    rw (word-at ws 0 (linkWords free ++ r) leftAt 0 e refl)
+    (zeros-read ws r linkAt (lengthsAt - linkAt) (after-part ws (0 ∷ []) (0 ∷ 0 ∷ 0 ∷ 0 ∷ r) leftAt 1 e refl))
 link-put (carries p left) ws r k e =
     (let a : word ws leftAt ≡ left = word-at ws left (linkWords (carries p left) ++ r) leftAt 0 e refl in
     let h : 1 ≤ left = within-facts 1 left (p .units - 1) k .0 in

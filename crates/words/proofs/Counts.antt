@@ -2,20 +2,19 @@
 use Prim.Native.Nat.{ℕ, zero, suc, _+_, _*_, _-_, _%_, _≤_}
 use mathlib.Core.Path.{_≡_, refl, sym, ap, _∙_}
 use mathlib.Core.Bool.{true, _&&_, and-eq-true-iff}
-use mathlib.Core.List.{List, [], _++_, map, flatten}
+use mathlib.Core.List.{List, [], _++_, flatten}
 use native.Mathlib.Omega.{arith}
 use native.Mathlib.Nat.{add-comm}
-use lib.ListN.{length, getD, drop, length-append, length-drop, length-map, List·getD-eq-default}
+use lib.ListN.{length, getD, drop, length-append, length-drop, List·getD-eq-default}
 use lib.Seq.{drop-append-add, drop-drop}
 use lib.Dec.{leb}
 use borrow.Author.Tests.{leb-true, le-leb}
 use Rattle.laws.specs.Series.{series-self, length-flatten, sumBelow, sumBelow-same, sumBelow-zeros, sumBelow-turned, length-chunks}
 use Rattle.meaning.specs.Numbers.{largestFactor, classCount}
-use Rattle.meaning.specs.declared.Packet.{Packet}
 use Rattle.meaning.specs.Box.{Box, waiting, sound}
 use Rattle.meaning.proofs.Facts.{sound-facts, settings-facts}
 use Rattle.words.specs.Places.{boxWords, word, lengthsBelow, placeOf, tagOf, classesAt, factorsAt, rowCountAt, rowsAt, lengthsAt, packetsAt, counterAt}
-use Rattle.words.specs.Contents.{contents, settingsAt, turnsAt, queueAt, queuesAt, packetWords, turnsOf, byPlace, laid, tables, image, put}
+use Rattle.words.specs.Contents.{contents, settingsAt, turnsAt, queueAt, queuesAt, packetWords, turnsOf, byPlace, tables, image, put}
 use Rattle.words.specs.Sound.{zeros, unusedClear, linkClear, untaggedEmpty, wellFormed, soundWords, Fitting}
 use Rattle.words.proofs.Laid.{length-laid}
 use Rattle.words.proofs.PutContents.{put-contents, class-count, row-count, untagged-zero}
@@ -66,7 +65,8 @@ image-size box k =
     simp (length-append, fixed, packets, w) (omega arith))
 
 -- words with contents put into them are as many as before
-pub length-put : (box : Box) (ws : List ℕ) → Puttable box → length (waiting box) ≤ 1024 → boxWords ≤ length ws → length (put box ws) ≡ length ws
+pub length-put : (box : Box) (ws : List ℕ) → Puttable box → length (waiting box) ≤ 1024 → boxWords ≤ length ws
+    → length (put box ws) ≡ length ws
 unfolding put
 length-put box ws k w h =
     (let n = image-size box k in
@@ -99,7 +99,8 @@ sound-fitting ws e =
     let b = and-eq-true-iff (leb boxWords (length ws) && unusedClear ws && linkClear ws) (untaggedEmpty ws) .0 (a .0) in
     let c = and-eq-true-iff (leb boxWords (length ws) && unusedClear ws) (linkClear ws) .0 (b .0) in
     let d = and-eq-true-iff (leb boxWords (length ws)) (unusedClear ws) .0 (c .0) in
-    let z = and-eq-true-iff (zeros ws (factorsAt + word ws classesAt) (rowCountAt - (factorsAt + word ws classesAt))) (zeros ws (rowsAt + 6 * word ws rowCountAt) (counterAt - (rowsAt + 6 * word ws rowCountAt))) .0 (d .1) in
+    let z = and-eq-true-iff (zeros ws (factorsAt + word ws classesAt) (rowCountAt - (factorsAt + word ws classesAt)))
+    (zeros ws (rowsAt + 6 * word ws rowCountAt) (counterAt - (rowsAt + 6 * word ws rowCountAt))) .0 (d .1) in
     let f = sound-facts (contents ws) (a .1) in
     let s = settings-facts (settingsAt ws) (f .settings-allowed) in
     record {
@@ -124,7 +125,8 @@ put-put box other ws h =
     let m = length (image other) in
     let e : n ≡ m + (n - m) = omega arith in
     let d : drop n (image other ++ drop m ws) ≡ drop n ws =
-    ap (λ k. drop k (image other ++ drop m ws)) e ∙ drop-append-add (image other) (drop m ws) (n - m) ∙ drop-drop (n - m) m ws ∙ ap (λ k. drop k ws) (sym e) in
+    ap (λ k. drop k (image other ++ drop m ws)) e ∙ drop-append-add (image other) (drop m ws) (n - m) ∙ drop-drop (n - m) m ws ∙
+    ap (λ k. drop k ws) (sym e) in
     ap (λ l. image box ++ l) d)
 
 -- sound words are those that their own contents put

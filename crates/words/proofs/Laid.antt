@@ -46,12 +46,14 @@ zeros-read ws r start n e =
     ap (every (λ w. eqb w 0)) (series-read ws z r start e) ∙ every-zeros n)
 
 -- The entries of a table stand at its place, and zeros follow them.
-pub entries-found : (ws l r : List ℕ) (at size : ℕ) → drop at ws ≡ padded size l ++ r → drop at ws ≡ l ++ (replicate (size - length l) 0 ++ r)
+pub entries-found : (ws l r : List ℕ) (at size : ℕ) → drop at ws ≡ padded size l ++ r
+    → drop at ws ≡ l ++ (replicate (size - length l) 0 ++ r)
 unfolding padded
 entries-found ws l r at size e = e ∙ append-assoc l (replicate (size - length l) 0) r
 
 -- From the last entry of a table to its end the words are 0.
-pub rest-clear : (ws l r : List ℕ) (at end : ℕ) → drop at ws ≡ padded (end - at) l ++ r → zeros ws (at + length l) (end - (at + length l)) ≡ true
+pub rest-clear : (ws l r : List ℕ) (at end : ℕ) → drop at ws ≡ padded (end - at) l ++ r
+    → zeros ws (at + length l) (end - (at + length l)) ≡ true
 rest-clear ws l r at end e =
     (let n : end - at - length l ≡ end - (at + length l) = omega arith in
     let z = entries-found ws l r at (end - at) e in
@@ -126,11 +128,13 @@ padded-zeros : (n : ℕ) (l : List ℕ) → l ≡ replicate (length l) 0 → len
 unfolding padded
 padded-zeros n l e h =
     (let k : length l + (n - length l) ≡ n = omega arith in
-    ap (λ x. x ++ replicate (n - length l) 0) e ∙ replicate-append-replicate {A = ℕ} (length l) (n - length l) 0 ∙ ap (λ m. replicate m 0) k)
+    ap (λ x. x ++ replicate (n - length l) 0) e ∙ replicate-append-replicate {A = ℕ} (length l) (n - length l) 0 ∙
+    ap (λ m. replicate m 0) k)
 
 -- Such tables are zeros.
 pub laid-zeros : (ts : List Table) → Empty ts → laid ts ≡ replicate (total ts) 0
 unfolding laid total Empty
 laid-zeros [] k = refl
 laid-zeros (t ∷ ts) k =
-    append-same (padded-zeros (t .size) (t .entries) (k .0 .0) (k .0 .1)) (laid-zeros ts (k .1)) ∙ replicate-append-replicate {A = ℕ} (t .size) (total ts) 0
+    append-same (padded-zeros (t .size) (t .entries) (k .0 .0) (k .0 .1)) (laid-zeros ts (k .1)) ∙
+    replicate-append-replicate {A = ℕ} (t .size) (total ts) 0

@@ -12,7 +12,7 @@ use Rattle.meaning.specs.Numbers.{largestFactor}
 use Rattle.meaning.specs.declared.Packet.{Packet}
 use Rattle.meaning.specs.Box.{Box}
 use Rattle.words.specs.Places.{word, startOf, lengthsBelow, placeOf, tagOf, intervalAt, cycleAt, classesAt, factorsAt, rowCountAt, rowsAt, counterAt, acceptedAt, leftAt, linkAt, lengthsAt, packetsAt}
-use Rattle.words.specs.Contents.{contents, settingsAt, standingAt, standings, packetAt, linkOf, turnsAt, queueAt, queuesAt, padded, standingWords, packetWords, linkWords, turnsOf, byPlace, laid, tables, image, put}
+use Rattle.words.specs.Contents.{contents, settingsAt, standingAt, standings, packetAt, linkOf, turnsAt, queueAt, queuesAt, padded, standingWords, packetWords, linkWords, turnsOf, byPlace, tables, image, put}
 use Rattle.words.specs.Sound.{zeros, linkClear, emptyFrom, untaggedEmpty, Fitting}
 use Rattle.words.proofs.Laid.{padded-series, Reads, laid-series}
 use Rattle.words.proofs.ContentsPut.{tables-total}
@@ -40,10 +40,12 @@ unfolding linkWords linkOf series zeros
 link-words-of ws zero q z = rw q (ap (λ l. 0 ∷ l) (sym (series-zeros (λ j. word ws j) 1 linkAt 4 (z refl))))
 link-words-of ws (suc n) q z = rw q (ap (λ l. suc n ∷ l) (packet-words ws linkAt))
 
-pub link-words : (ws : List ℕ) → linkClear ws ≡ true → linkWords (linkOf (word ws leftAt) (packetAt ws linkAt)) ≡ series (λ j. word ws j) 1 leftAt (lengthsAt - leftAt)
+pub link-words : (ws : List ℕ) → linkClear ws ≡ true
+    → linkWords (linkOf (word ws leftAt) (packetAt ws linkAt)) ≡ series (λ j. word ws j) 1 leftAt (lengthsAt - leftAt)
 unfolding linkClear
 link-words ws e =
-    link-words-of ws (word ws leftAt) refl (λ q. sym (ap (λ b. cond b (zeros ws linkAt (lengthsAt - linkAt)) true) (eq-eqb (word ws leftAt) 0 q)) ∙ e)
+    link-words-of ws (word ws leftAt) refl (λ q. sym (ap (λ b. cond b (zeros ws linkAt (lengthsAt - linkAt)) true)
+    (eq-eqb (word ws leftAt) 0 q)) ∙ e)
 
 -- the queue at a place of no tag is empty
 pub queue-untagged : (ws : List ℕ) (p : ℕ) → word ws (lengthsAt + p) ≡ 0 → queueAt ws p ≡ []
@@ -54,13 +56,15 @@ start-at : (ws : List ℕ) (p : ℕ) → packetsAt + 1 * (4 * lengthsBelow ws p)
 unfolding startOf
 start-at ws p = omega arith
 
-queue-words : (ws : List ℕ) (p : ℕ) → flatten (map packetWords (queueAt ws p)) ≡ series (λ j. word ws j) 1 (startOf ws p) (4 * word ws (lengthsAt + p))
+queue-words : (ws : List ℕ) (p : ℕ) → flatten (map packetWords (queueAt ws p))
+    ≡ series (λ j. word ws j) 1 (startOf ws p) (4 * word ws (lengthsAt + p))
 unfolding queueAt
 queue-words ws p = chunks-words (packetAt ws) packetWords (λ j. word ws j) 4 (packet-words ws) (startOf ws p) (word ws (lengthsAt + p))
 
 queues-next : (ws : List ℕ) (p : ℕ)
     → flatten (map packetWords (flatten (series (queueAt ws) 1 0 p))) ≡ series (λ j. word ws j) 1 packetsAt (4 * lengthsBelow ws p)
-    → flatten (map packetWords (flatten (series (queueAt ws) 1 0 (suc p)))) ≡ series (λ j. word ws j) 1 packetsAt (4 * (lengthsBelow ws p + word ws (lengthsAt + p)))
+    → flatten (map packetWords (flatten (series (queueAt ws) 1 0 (suc p))))
+    ≡ series (λ j. word ws j) 1 packetsAt (4 * (lengthsBelow ws p + word ws (lengthsAt + p)))
 unfolding flatten
 queues-next ws p h =
     (let w : ℕ → ℕ = λ j. word ws j in
@@ -114,7 +118,8 @@ queue-tagged ws e h p l =
       | no k ↦
           List·getD-eq-default (series f 1 0 (suc r)) [] (rw (length-series f 1 0 (suc r)) (omega arith)) ∙
           sym (queue-untagged ws p
-          (sym (ap (λ x. word ws (lengthsAt + x)) (place-of-tag (turnsAt ws) p l)) ∙ untagged-zero ws e t (omega arith) (tag-below (turnsAt ws) p)))
+          (sym (ap (λ x. word ws (lengthsAt + x)) (place-of-tag (turnsAt ws) p l)) ∙
+          untagged-zero ws e t (omega arith) (tag-below (turnsAt ws) p)))
     ])
 
 -- the queues by their places are those in the words
@@ -122,7 +127,8 @@ pub by-place : (ws : List ℕ) → untaggedEmpty ws ≡ true → largestFactor (
     → byPlace (contents ws) ≡ series (queueAt ws) 1 0 64
 unfolding byPlace contents turnsOf turnsAt settingsAt
 by-place ws e h =
-    series-same (λ p. getD (queuesAt ws) (tagOf (turnsAt ws) p) []) (queueAt ws) 1 0 0 64 (λ i l. queue-tagged ws e h (0 + 1 * i) (omega arith))
+    series-same (λ p. getD (queuesAt ws) (tagOf (turnsAt ws) p) []) (queueAt ws) 1 0 0 64
+    (λ i l. queue-tagged ws e h (0 + 1 * i) (omega arith))
 
 lengths-words : (ws : List ℕ) → map length (series (queueAt ws) 1 0 64) ≡ series (λ j. word ws j) 1 lengthsAt (packetsAt - lengthsAt)
 unfolding queueAt

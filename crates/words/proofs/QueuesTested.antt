@@ -1,5 +1,5 @@
 -- The test of the queues, place by place, and the clauses of document 01, queue by queue.
-use Prim.Native.Nat.{ℕ, zero, suc, _+_, _-_, _/_, _≤_, _<_}
+use Prim.Native.Nat.{ℕ, zero, suc, _+_, _/_, _≤_, _<_}
 use mathlib.Core.Path.{_≡_, refl, sym, ap, _∙_}
 use mathlib.Core.Bool.{true, cond, _&&_, and-eq-true-iff}
 use mathlib.Core.List.{List, [], _∷_, map}
@@ -67,11 +67,13 @@ queues-facts ws e =
     record {
       tagged = λ k h l.
           packets-facts (contents ws) (turnsAt ws + k) 0 (queueAt ws (placeOf (turnsAt ws) k))
-          (sym (ap (λ b. cond b (packetsFit (contents ws) (turnsAt ws + k) 0 (queueAt ws (placeOf (turnsAt ws) k))) (eqb (length (queueAt ws (placeOf (turnsAt ws) k))) 0))
+          (sym (ap (λ b. cond b (packetsFit (contents ws) (turnsAt ws + k) 0 (queueAt ws (placeOf (turnsAt ws) k)))
+          (eqb (length (queueAt ws (placeOf (turnsAt ws) k))) 0))
           (le-leb k (largestFactor (settingsAt ws)) h)) ∙ fits k l);
       untagged = λ k h l.
           sym (length-queue ws (placeOf (turnsAt ws) k)) ∙ eqb-true _ 0
-          (sym (ap (λ b. cond b (packetsFit (contents ws) (turnsAt ws + k) 0 (queueAt ws (placeOf (turnsAt ws) k))) (eqb (length (queueAt ws (placeOf (turnsAt ws) k))) 0))
+          (sym (ap (λ b. cond b (packetsFit (contents ws) (turnsAt ws + k) 0 (queueAt ws (placeOf (turnsAt ws) k)))
+          (eqb (length (queueAt ws (placeOf (turnsAt ws) k))) 0))
           (lt-leb k (largestFactor (settingsAt ws)) h)) ∙ fits k l);
     }
   where
@@ -107,9 +109,11 @@ pub in-queues-all : (box : Box) (f : ℕ → List Packet) (tag n : ℕ)
 unfolding inTheirQueues series
 in-queues-all box f tag zero h = refl
 in-queues-all box f tag (suc n) h =
-    and-eq-true-iff (every (λ p. eqb (rankIn box p) (box .counter / box .settings .interval + tag)) (f tag)) (inTheirQueues box (suc tag) (series f 1 (tag + 1) n)) .1 (
+    and-eq-true-iff (every (λ p. eqb (rankIn box p) (box .counter / box .settings .interval + tag)) (f tag))
+    (inTheirQueues box (suc tag) (series f 1 (tag + 1) n)) .1 (
       h tag (omega arith) (omega arith),
-      ap (λ k. inTheirQueues box (suc tag) (series f 1 k n)) (add-one tag) ∙ in-queues-all box f (suc tag) n (λ k a b. h k (omega arith) (omega arith)),
+      ap (λ k. inTheirQueues box (suc tag) (series f 1 k n)) (add-one tag) ∙
+          in-queues-all box f (suc tag) n (λ k a b. h k (omega arith) (omega arith)),
     )
 
 pub in-queues-at : (box : Box) (f : ℕ → List Packet) (tag n : ℕ) → inTheirQueues box tag (series f 1 tag n) ≡ true
@@ -117,10 +121,12 @@ pub in-queues-at : (box : Box) (f : ℕ → List Packet) (tag n : ℕ) → inThe
 unfolding inTheirQueues series
 in-queues-at box f tag zero e k a b = absurd (omega arith)
 in-queues-at box f tag (suc n) e k a b =
-    (let h = and-eq-true-iff (every (λ p. eqb (rankIn box p) (box .counter / box .settings .interval + tag)) (f tag)) (inTheirQueues box (suc tag) (series f 1 (tag + 1) n)) .0 e in
+    (let h = and-eq-true-iff (every (λ p. eqb (rankIn box p) (box .counter / box .settings .interval + tag)) (f tag))
+    (inTheirQueues box (suc tag) (series f 1 (tag + 1) n)) .0 e in
     elim (decLe k tag) [
       | yes l ↦ first (omega arith) (h .0)
-      | no l ↦ in-queues-at box f (suc tag) n (sym (ap (λ k. inTheirQueues box (suc tag) (series f 1 k n)) (add-one tag)) ∙ h .1) k (omega arith) (omega arith)
+      | no l ↦ in-queues-at box f (suc tag) n (sym (ap (λ k. inTheirQueues box (suc tag) (series f 1 k n)) (add-one tag)) ∙ h .1) k
+          (omega arith) (omega arith)
     ])
   where
     first : k ≡ tag → every (λ p. eqb (rankIn box p) (box .counter / box .settings .interval + tag)) (f tag) ≡ true

@@ -23,7 +23,8 @@ whole turns k =
 pub tag-of-place : (turns k : ℕ) → k < 64 → tagOf turns (placeOf turns k) ≡ k
 unfolding placeOf tagOf
 tag-of-place turns k h =
-    mod-add-mod (turns + k) 64 (64 - turns % 64) ∙ ap (λ n. n % 64) (whole turns k) ∙ add-mul-mod-self-right k (turns / 64 + 1) 64 ∙ mod-eq-of-lt h
+    mod-add-mod (turns + k) 64 (64 - turns % 64) ∙ ap (λ n. n % 64) (whole turns k) ∙ add-mul-mod-self-right k (turns / 64 + 1) 64 ∙
+    mod-eq-of-lt h
 
 pub place-of-tag : (turns p : ℕ) → p < 64 → placeOf turns (tagOf turns p) ≡ p
 unfolding placeOf tagOf

@@ -36,7 +36,12 @@ module _ (ws after : List ℕ) where
   settings-same h e =
       (let f : ℕ → ℕ = λ i. word ws i in
       let g : ℕ → ℕ = λ i. word after i in
-      rw (e intervalAt (omega arith), e cycleAt (omega arith), e classesAt (omega arith), series-same g f 1 factorsAt factorsAt (word ws classesAt) (λ i l. e (factorsAt + 1 * i) (omega arith))))
+      rw (
+        e intervalAt (omega arith),
+        e cycleAt (omega arith),
+        e classesAt (omega arith),
+        series-same g f 1 factorsAt factorsAt (word ws classesAt) (λ i l. e (factorsAt + 1 * i) (omega arith)),
+      ))
 
   pub standing-same : (at : ℕ) → ((i : ℕ) → at ≤ i → i < at + 6 → word after i ≡ word ws i) → standingAt after at ≡ standingAt ws at
   unfolding standingAt
@@ -50,7 +55,8 @@ module _ (ws after : List ℕ) where
         e (at + 5) (omega arith) (omega arith),
       )
 
-  pub standings-same : word ws rowCountAt ≤ 32 → ((i : ℕ) → rowCountAt ≤ i → i < counterAt → word after i ≡ word ws i) → standings after ≡ standings ws
+  pub standings-same : word ws rowCountAt ≤ 32 → ((i : ℕ) → rowCountAt ≤ i → i < counterAt → word after i ≡ word ws i)
+      → standings after ≡ standings ws
   unfolding standings
   standings-same h e =
       rw (e rowCountAt (omega arith) (omega arith))
@@ -68,7 +74,8 @@ module _ (ws after : List ℕ) where
   pub zeros-same : (start n : ℕ) → ((i : ℕ) → start ≤ i → i < start + n → word after i ≡ word ws i) → zeros after start n ≡ zeros ws start n
   unfolding zeros
   zeros-same start n e =
-      ap (every (λ w. eqb w 0)) (series-same (λ i. word after i) (λ i. word ws i) 1 start start n (λ i l. e (start + 1 * i) (omega arith) (omega arith)))
+      ap (every (λ w. eqb w 0)) (series-same (λ i. word after i) (λ i. word ws i) 1 start start n
+      (λ i l. e (start + 1 * i) (omega arith) (omega arith)))
 
   pub turns-same : word after intervalAt ≡ word ws intervalAt → word after counterAt ≡ word ws counterAt → turnsAt after ≡ turnsAt ws
   unfolding turnsAt
@@ -92,16 +99,19 @@ fitting-kept ws after k l e c u t =
       interval = omega (arith, k .interval, e intervalAt (omega arith));
       classes-least = omega (arith, k .classes-least);
       classes = omega (arith, k .classes);
-      factors-clear = rw two (zeros-same ws after (factorsAt + word ws classesAt) (rowCountAt - (factorsAt + word ws classesAt)) (λ i a b. e i (omega (arith, k .classes))) ∙ k .factors-clear);
+      factors-clear = rw two (zeros-same ws after (factorsAt + word ws classesAt) (rowCountAt - (factorsAt + word ws classesAt))
+          (λ i a b. e i (omega (arith, k .classes))) ∙ k .factors-clear);
       rows = omega (arith, k .rows);
-      rows-clear = rw n (zeros-same ws after (rowsAt + 6 * word ws rowCountAt) (counterAt - (rowsAt + 6 * word ws rowCountAt)) (λ i a b. e i (omega (arith, k .rows))) ∙ k .rows-clear);
+      rows-clear = rw n (zeros-same ws after (rowsAt + 6 * word ws rowCountAt) (counterAt - (rowsAt + 6 * word ws rowCountAt))
+          (λ i a b. e i (omega (arith, k .rows))) ∙ k .rows-clear);
       link-clear = c;
       largest = rw set (k .largest);
       untagged = u;
       total = t;
     })
 
-pub link-clear-same : (ws after : List ℕ) → ((i : ℕ) → leftAt ≤ i → i < lengthsAt → word after i ≡ word ws i) → linkClear after ≡ linkClear ws
+pub link-clear-same : (ws after : List ℕ) → ((i : ℕ) → leftAt ≤ i → i < lengthsAt → word after i ≡ word ws i)
+    → linkClear after ≡ linkClear ws
 unfolding linkClear
 link-clear-same ws after e =
     rw (e leftAt (omega arith) (omega arith), zeros-same ws after linkAt 4 (λ i a b. e i (omega arith) (omega arith)))
@@ -117,14 +127,17 @@ module _ (ws after : List ℕ) (e : (i : ℕ) → lengthsAt ≤ i → word after
   unfolding queueAt startOf
   queue-same p =
       rw (e (lengthsAt + p) (omega arith), lengths-same p)
-      (series-same (packetAt after) (packetAt ws) 4 (packetsAt + 4 * lengthsBelow ws p) (packetsAt + 4 * lengthsBelow ws p) (word ws (lengthsAt + p)) (λ i h.
-      packet-same ws after (packetsAt + 4 * lengthsBelow ws p + 4 * i) (packetsAt + 4 * lengthsBelow ws p + 4 * i) (λ j g. e (packetsAt + 4 * lengthsBelow ws p + 4 * i + j) (omega arith))))
+      (series-same (packetAt after) (packetAt ws) 4 (packetsAt + 4 * lengthsBelow ws p) (packetsAt + 4 * lengthsBelow ws p)
+      (word ws (lengthsAt + p)) (λ i h.
+      packet-same ws after (packetsAt + 4 * lengthsBelow ws p + 4 * i) (packetsAt + 4 * lengthsBelow ws p + 4 * i)
+      (λ j g. e (packetsAt + 4 * lengthsBelow ws p + 4 * i + j) (omega arith))))
 
   pub queues-same : settingsAt after ≡ settingsAt ws → turnsAt after ≡ turnsAt ws → queuesAt after ≡ queuesAt ws
   unfolding queuesAt
   queues-same s t =
       rw (s, t)
-      (series-same (λ k. queueAt after (placeOf (turnsAt ws) k)) (λ k. queueAt ws (placeOf (turnsAt ws) k)) 1 0 0 (suc (largestFactor (settingsAt ws)))
+      (series-same (λ k. queueAt after (placeOf (turnsAt ws) k)) (λ k. queueAt ws (placeOf (turnsAt ws) k)) 1 0 0
+      (suc (largestFactor (settingsAt ws)))
       (λ i h. queue-same (placeOf (turnsAt ws) (0 + 1 * i))))
 
   pub untagged-same : settingsAt after ≡ settingsAt ws → turnsAt after ≡ turnsAt ws → untaggedEmpty after ≡ untaggedEmpty ws
@@ -132,5 +145,6 @@ module _ (ws after : List ℕ) (e : (i : ℕ) → lengthsAt ≤ i → word after
   untagged-same s t =
       (let r = largestFactor (settingsAt ws) in
       rw (s, t)
-      (ap (every (λ w. eqb w 0)) (series-same (λ k. word after (lengthsAt + placeOf (turnsAt ws) k)) (λ k. word ws (lengthsAt + placeOf (turnsAt ws) k)) 1 (suc r) (suc r) (63 - r)
+      (ap (every (λ w. eqb w 0)) (series-same (λ k. word after (lengthsAt + placeOf (turnsAt ws) k))
+      (λ k. word ws (lengthsAt + placeOf (turnsAt ws) k)) 1 (suc r) (suc r) (63 - r)
       (λ i h. e (lengthsAt + placeOf (turnsAt ws) (suc r + 1 * i)) (omega arith)))))

@@ -40,7 +40,8 @@ packet-stored ws at s n u a h =
     word-other w3 (at + 3) a (at + 2) (λ q. omega arith) ∙ word-same w2 (at + 2) u (at + 2) (omega arith) refl in
     let p3 : word w4 (at + 3) ≡ a = word-same w3 (at + 3) a (at + 3) (omega arith) refl in
     let other : (i : ℕ) → (i ≡ at → ⊥) → (i ≡ at + 1 → ⊥) → (i ≡ at + 2 → ⊥) → (i ≡ at + 3 → ⊥) → word w4 i ≡ word ws i =
-    λ i b0 b1 b2 b3. word-other w3 (at + 3) a i b3 ∙ word-other w2 (at + 2) u i b2 ∙ word-other w1 (at + 1) n i b1 ∙ word-other ws at s i b0 in
+    λ i b0 b1 b2 b3. word-other w3 (at + 3) a i b3 ∙ word-other w2 (at + 2) u i b2 ∙ word-other w1 (at + 1) n i b1 ∙
+    word-other ws at s i b0 in
     record {
       same-length = l4;
       packet = rw (p0, p1, p2, p3);

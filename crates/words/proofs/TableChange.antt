@@ -6,12 +6,11 @@ use mathlib.Core.Bool.{true}
 use mathlib.Core.List.{List}
 use native.Mathlib.Omega.{arith}
 use lib.ListN.{length, set, length-set}
-use Rattle.meaning.specs.Numbers.{largestFactor}
 use Rattle.meaning.specs.declared.Packet.{Packet}
 use Rattle.meaning.specs.declared.Standing.{Standing}
-use Rattle.meaning.specs.Box.{Box, Link}
-use Rattle.words.specs.Places.{word, lengthsBelow, intervalAt, classesAt, factorsAt, rowCountAt, rowsAt, counterAt, acceptedAt, leftAt, linkAt, lengthsAt, packetsAt}
-use Rattle.words.specs.Contents.{contents, settingsAt, standings, packetAt, linkOf, turnsAt, queuesAt}
+use Rattle.meaning.specs.Box.{Link}
+use Rattle.words.specs.Places.{word, intervalAt, classesAt, factorsAt, rowCountAt, rowsAt, counterAt, acceptedAt, leftAt, linkAt, lengthsAt}
+use Rattle.words.specs.Contents.{contents, settingsAt, standings, packetAt, linkOf, queuesAt}
 use Rattle.words.specs.Sound.{zeros, linkClear, untaggedEmpty, Fitting}
 use Rattle.words.specs.Changes.{Become}
 use Rattle.words.proofs.Storing.{word-other}
@@ -74,7 +73,8 @@ module _ (ws after : List ℕ) (from to : ℕ) (k : Fitting ws) (o : Only ws aft
 
   -- The rows that are not used stay 0 where the change comes after them.
   pub rows-stay-clear : counterAt ≤ from
-      → (word after rowCountAt ≤ 32) × (zeros after (rowsAt + 6 * word after rowCountAt) (counterAt - (rowsAt + 6 * word after rowCountAt)) ≡ true)
+      → (word after rowCountAt ≤ 32) × (zeros after (rowsAt + 6 * word after rowCountAt) (counterAt - (rowsAt + 6 * word after rowCountAt))
+      ≡ true)
   rows-stay-clear f =
       let n : word after rowCountAt ≡ word ws rowCountAt = o .kept rowCountAt (λ p q. omega arith) in (
         omega (arith, k .rows),
@@ -84,7 +84,8 @@ module _ (ws after : List ℕ) (from to : ℕ) (k : Fitting ws) (o : Only ws aft
 
   -- The words are fitting again where rows, link and queues are.
   fitting-stays : rowCountAt ≤ from → to ≤ lengthsAt
-      → (word after rowCountAt ≤ 32) × (zeros after (rowsAt + 6 * word after rowCountAt) (counterAt - (rowsAt + 6 * word after rowCountAt)) ≡ true)
+      → (word after rowCountAt ≤ 32) × (zeros after (rowsAt + 6 * word after rowCountAt) (counterAt - (rowsAt + 6 * word after rowCountAt))
+      ≡ true)
       → linkClear after ≡ true → untaggedEmpty after ≡ true → Fitting after
   fitting-stays f t r c u =
       let p : word after classesAt ≡ word ws classesAt = o .kept classesAt (λ x y. omega arith) in
@@ -108,8 +109,10 @@ module _ (ws after : List ℕ) (from to : ℕ) (k : Fitting ws) (o : Only ws aft
       }
 
   -- The words become those of the box whose rows, counter, count, link and queues they are then read as.
-  pub table-become : (rows : List Standing) (counter accepted : ℕ) (link : Link) (queues : List (List Packet)) → rowCountAt ≤ from → to ≤ lengthsAt
-      → (word after rowCountAt ≤ 32) × (zeros after (rowsAt + 6 * word after rowCountAt) (counterAt - (rowsAt + 6 * word after rowCountAt)) ≡ true)
+  pub table-become : (rows : List Standing) (counter accepted : ℕ) (link : Link) (queues : List (List Packet)) → rowCountAt ≤ from
+      → to ≤ lengthsAt
+      → (word after rowCountAt ≤ 32) × (zeros after (rowsAt + 6 * word after rowCountAt) (counterAt - (rowsAt + 6 * word after rowCountAt))
+      ≡ true)
       → linkClear after ≡ true → untaggedEmpty after ≡ true
       → standings after ≡ rows → word after counterAt ≡ counter → word after acceptedAt ≡ accepted
       → linkOf (word after leftAt) (packetAt after linkAt) ≡ link → queuesAt after ≡ queues

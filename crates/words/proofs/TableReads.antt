@@ -11,7 +11,7 @@ use borrow.Author.Tests.{leb-true}
 use Rattle.laws.specs.Series.{length-series, getD-series, map-series, every-index}
 use Rattle.laws.specs.Tests.{within, every, within-facts}
 use Rattle.meaning.specs.declared.Connection.{Connection}
-use Rattle.meaning.specs.Numbers.{settingsAllowed, intervalAllowed, cycleAllowed, classesAllowed, largestBoundAllowed, largestBound, bound, risingAbove, classCount, factor, largestFactor, connectionAllowed, classAllowed, longestAllowed, burstAllowed, periodAllowed}
+use Rattle.meaning.specs.Numbers.{settingsAllowed, classCount, factor, largestFactor, connectionAllowed, classAllowed, longestAllowed, burstAllowed, periodAllowed}
 use Rattle.meaning.specs.declared.Allowance.{Allowance}
 use Rattle.meaning.specs.Envelope.{full, allowanceKept}
 use Rattle.meaning.specs.Calls.{allowance}
@@ -26,7 +26,8 @@ use Rattle.words.proofs.PutContents.{class-count}
 
 -- the test of a row, word by word
 pub row-parts : (ws : List ℕ) (at : ℕ)
-    → rowKept ws (standingAt ws at) ≡ (within 1 (word ws at) (word ws classesAt) && (within 1 (word ws (at + 1)) 64 && (within 1 (word ws (at + 2)) 64 &&
+    → rowKept ws (standingAt ws at) ≡ (within 1 (word ws at) (word ws classesAt) &&
+    (within 1 (word ws (at + 1)) 64 && (within 1 (word ws (at + 2)) 64 &&
     (within 1 (word ws (at + 3)) (word ws cycleAt) && (eqb (word ws cycleAt % word ws (at + 3)) 0 &&
     allowanceKept (record { class = 0; longest = 0; burst = word ws (at + 2); period = word ws (at + 3) }) (word ws counterAt)
     (record { next = word ws (at + 4); credit = word ws (at + 5) }))))))
@@ -34,7 +35,8 @@ unfolding rowKept standingAt connectionAllowed classAllowed longestAllowed burst
 row-parts ws at = simp (length-series, and-assoc)
 
 -- the connection of a number, read from its row
-pub connection-at : (ws : List ℕ) (n : ℕ) → 1 ≤ n → n ≤ word ws rowCountAt → connection (contents ws) n ≡ standingAt ws (rowsAt - 6 + 6 * n) .asked
+pub connection-at : (ws : List ℕ) (n : ℕ) → 1 ≤ n → n ≤ word ws rowCountAt
+    → connection (contents ws) n ≡ standingAt ws (rowsAt - 6 + 6 * n) .asked
 unfolding connection connections contents standings
 connection-at ws n h k =
     (let f : ℕ → Connection = λ i. standingAt ws i .asked in
@@ -44,7 +46,8 @@ connection-at ws n h k =
 
 -- the test of a packet, word by word
 pub packet-parts : (ws : List ℕ) (at : ℕ)
-    → packetKept (contents ws) (packetAt ws at) ≡ (within 1 (word ws at) (word ws acceptedAt) && (within 1 (word ws (at + 1)) (word ws rowCountAt) &&
+    → packetKept (contents ws) (packetAt ws at) ≡ (within 1 (word ws at) (word ws acceptedAt) &&
+    (within 1 (word ws (at + 1)) (word ws rowCountAt) &&
     (within 1 (word ws (at + 2)) (connection (contents ws) (word ws (at + 1)) .longest) && leb (word ws (at + 3)) (word ws counterAt))))
 unfolding packetKept stands contents packetAt standings
 packet-parts ws at = simp (length-series, and-assoc)
@@ -65,10 +68,12 @@ connection-class : (ws : List ℕ) (n : ℕ) → 1 ≤ n → n ≤ word ws rowCo
 unfolding standingAt
 connection-class ws n h k = ap (λ c. c .class) (connection-at ws n h k)
 
-pub connection-longest : (ws : List ℕ) (n : ℕ) → 1 ≤ n → n ≤ word ws rowCountAt → connection (contents ws) n .longest ≡ word ws (1 + (rowsAt - 6 + 6 * n))
+pub connection-longest : (ws : List ℕ) (n : ℕ) → 1 ≤ n → n ≤ word ws rowCountAt
+    → connection (contents ws) n .longest ≡ word ws (1 + (rowsAt - 6 + 6 * n))
 unfolding standingAt
 connection-longest ws n h k =
-    (let e : (rowsAt - 6 + 6 * n) + 1 ≡ 1 + (rowsAt - 6 + 6 * n) = omega arith in ap (λ c. c .longest) (connection-at ws n h k) ∙ ap (λ i. word ws i) e)
+    (let e : (rowsAt - 6 + 6 * n) + 1 ≡ 1 + (rowsAt - 6 + 6 * n) = omega arith in
+    ap (λ c. c .longest) (connection-at ws n h k) ∙ ap (λ i. word ws i) e)
 
 rank-of-class : (ws : List ℕ) (at : ℕ) {class : ℕ} → connection (contents ws) (word ws (at + 1)) .class ≡ class
     → rankIn (contents ws) (packetAt ws at) ≡ word ws (at + 3) / word ws intervalAt + factor (settingsAt ws) class
@@ -77,13 +82,15 @@ rank-of-class ws at e = ap (λ class. word ws (at + 3) / word ws intervalAt + fa
 
 -- the rank of a packet, read from the tables
 pub rank-at : (ws : List ℕ) (at : ℕ) → Tables ws → 1 ≤ word ws (at + 1) → word ws (at + 1) ≤ word ws rowCountAt
-    → rankIn (contents ws) (packetAt ws at) ≡ word ws (at + 3) / word ws intervalAt + word ws (factorsAt - 1 + word ws ((rowsAt - 6 + 6 * word ws (at + 1))))
+    → rankIn (contents ws) (packetAt ws at) ≡ word ws (at + 3) / word ws intervalAt + word ws
+    (factorsAt - 1 + word ws ((rowsAt - 6 + 6 * word ws (at + 1))))
 rank-at ws at k h l =
     (let n = word ws (at + 1) in
     let e : rowsAt + 6 * (n - 1) ≡ (rowsAt - 6 + 6 * n) = omega arith in
     let a : 1 ≤ word ws (rowsAt - 6 + 6 * n) = rw (ap (λ i. word ws i) e) at (k .class-least (n - 1) (omega arith)) in
     let b : word ws (rowsAt - 6 + 6 * n) ≤ word ws classesAt = rw (ap (λ i. word ws i) e) at (k .class-most (n - 1) (omega arith)) in
-    rank-of-class ws at (connection-class ws n h l) ∙ ap (λ m. word ws (at + 3) / word ws intervalAt + m) (factor-at ws (word ws (rowsAt - 6 + 6 * n)) a b))
+    rank-of-class ws at (connection-class ws n h l) ∙
+    ap (λ m. word ws (at + 3) / word ws intervalAt + m) (factor-at ws (word ws (rowsAt - 6 + 6 * n)) a b))
 
 -- a packet that is kept has a connection that stands
 pub kept-connection : (ws : List ℕ) (at : ℕ) → packetKept (contents ws) (packetAt ws at) ≡ true
@@ -92,7 +99,8 @@ kept-connection ws at e =
     (let n = word ws (at + 1) in
     let u = within 1 (word ws (at + 2)) (connection (contents ws) n .longest) in
     let t = sym (packet-parts ws at) ∙ e in
-    let a = and-eq-true-iff (within 1 (word ws at) (word ws acceptedAt)) (within 1 n (word ws rowCountAt) && (u && leb (word ws (at + 3)) (word ws counterAt))) .0 t in
+    let a = and-eq-true-iff (within 1 (word ws at) (word ws acceptedAt))
+    (within 1 n (word ws rowCountAt) && (u && leb (word ws (at + 3)) (word ws counterAt))) .0 t in
     let b = and-eq-true-iff (within 1 n (word ws rowCountAt)) (u && leb (word ws (at + 3)) (word ws counterAt)) .0 (a .1) in
     within-facts 1 n (word ws rowCountAt) (b .0))
 
@@ -106,16 +114,19 @@ classes-at ws h = rw (class-count ws) at h
 
 row-class : (ws : List ℕ) (at : ℕ) → rowKept ws (standingAt ws at) ≡ true → (1 ≤ word ws at) × (word ws at ≤ word ws classesAt)
 row-class ws at e =
-    (let t = sym (row-parts ws at) ∙ e in within-facts 1 (word ws at) (word ws classesAt) (and-eq-true-iff (within 1 (word ws at) (word ws classesAt)) _ .0 t .0))
+    (let t = sym (row-parts ws at) ∙ e in within-facts 1 (word ws at) (word ws classesAt)
+    (and-eq-true-iff (within 1 (word ws at) (word ws classesAt)) _ .0 t .0))
 
 -- tested settings and rows are tables from which packets can be tested
 pub tables-tested : (ws : List ℕ) → boxWords ≤ length ws → settingsTested ws ≡ true → rowsTested ws ≡ true → Tables ws
 unfolding settingsTested rowsTested standings
 tables-tested ws h s r =
-    (let a = and-eq-true-iff (leb (word ws classesAt) 8 && settingsAllowed (settingsAt ws)) (zeros ws (factorsAt + word ws classesAt) (rowCountAt - (factorsAt + word ws classesAt))) .0 s in
+    (let a = and-eq-true-iff (leb (word ws classesAt) 8 && settingsAllowed (settingsAt ws))
+    (zeros ws (factorsAt + word ws classesAt) (rowCountAt - (factorsAt + word ws classesAt))) .0 s in
     let b = and-eq-true-iff (leb (word ws classesAt) 8) (settingsAllowed (settingsAt ws)) .0 (a .0) in
     let f = settings-facts (settingsAt ws) (b .1) in
-    let c = and-eq-true-iff (leb (word ws rowCountAt) 32 && every (rowKept ws) (standings ws)) (zeros ws (rowsAt + 6 * word ws rowCountAt) (counterAt - (rowsAt + 6 * word ws rowCountAt))) .0 r in
+    let c = and-eq-true-iff (leb (word ws rowCountAt) 32 && every (rowKept ws) (standings ws))
+    (zeros ws (rowsAt + 6 * word ws rowCountAt) (counterAt - (rowsAt + 6 * word ws rowCountAt))) .0 r in
     let d = and-eq-true-iff (leb (word ws rowCountAt) 32) (every (rowKept ws) (standings ws)) .0 (c .0) in
     let rows = every-index (rowKept ws) (standingAt ws) 6 rowsAt (word ws rowCountAt) (d .1) in
     record {
@@ -138,7 +149,8 @@ lengths-most ws p (suc n) h = elim (decLe n p) [ yes k ↦ last (omega arith) | 
     last e = rw e (omega arith)
 
 -- the allowance of a number, read from its row
-pub allowance-at : (ws : List ℕ) (n : ℕ) → 1 ≤ n → n ≤ word ws rowCountAt → allowance (contents ws) n ≡ standingAt ws (rowsAt - 6 + 6 * n) .allowance
+pub allowance-at : (ws : List ℕ) (n : ℕ) → 1 ≤ n → n ≤ word ws rowCountAt
+    → allowance (contents ws) n ≡ standingAt ws (rowsAt - 6 + 6 * n) .allowance
 unfolding allowance contents standings
 allowance-at ws n h k =
     (let f : ℕ → Allowance = λ i. standingAt ws i .allowance in

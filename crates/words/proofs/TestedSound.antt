@@ -53,9 +53,11 @@ tested-parts ws e =
     let c = and-eq-true-iff (l && S && R) C .0 (b .0) in
     let d = and-eq-true-iff (l && S) R .0 (c .0) in
     let f = and-eq-true-iff l S .0 (d .0) in
-    let s = and-eq-true-iff (leb (word ws classesAt) 8 && settingsAllowed (settingsAt ws)) (zeros ws (factorsAt + word ws classesAt) (rowCountAt - (factorsAt + word ws classesAt))) .0 (f .1) in
+    let s = and-eq-true-iff (leb (word ws classesAt) 8 && settingsAllowed (settingsAt ws))
+    (zeros ws (factorsAt + word ws classesAt) (rowCountAt - (factorsAt + word ws classesAt))) .0 (f .1) in
     let s2 = and-eq-true-iff (leb (word ws classesAt) 8) (settingsAllowed (settingsAt ws)) .0 (s .0) in
-    let r = and-eq-true-iff (leb (word ws rowCountAt) mostConnections && every (rowKept ws) (standings ws)) (zeros ws (rowsAt + 6 * word ws rowCountAt) (counterAt - (rowsAt + 6 * word ws rowCountAt))) .0 (d .1) in
+    let r = and-eq-true-iff (leb (word ws rowCountAt) mostConnections && every (rowKept ws) (standings ws))
+    (zeros ws (rowsAt + 6 * word ws rowCountAt) (counterAt - (rowsAt + 6 * word ws rowCountAt))) .0 (d .1) in
     let r2 = and-eq-true-iff (leb (word ws rowCountAt) mostConnections) (every (rowKept ws) (standings ws)) .0 (r .0) in
     let n = leb (word ws acceptedAt) (word ws counterAt + (lengthsBelow ws 64 + cond (eqb (word ws leftAt) 0) 0 1)) in
     let k = and-eq-true-iff (leb (word ws counterAt) lastSlot && leb (lengthsBelow ws 64) mostWaiting) n .0 (c .1) in
@@ -85,17 +87,28 @@ parts-tested ws p =
     let L = linkTested ws in
     let n = leb (word ws acceptedAt) (word ws counterAt + (lengthsBelow ws 64 + cond (eqb (word ws leftAt) 0) 0 1)) in
     let s : S ≡ true =
-    and-eq-true-iff (leb (word ws classesAt) 8 && settingsAllowed (settingsAt ws)) (zeros ws (factorsAt + word ws classesAt) (rowCountAt - (factorsAt + word ws classesAt))) .1
-    (and-eq-true-iff (leb (word ws classesAt) 8) (settingsAllowed (settingsAt ws)) .1 (le-leb _ _ (p .classes), p .settings), p .factors-clear) in
+    and-eq-true-iff (leb (word ws classesAt) 8 && settingsAllowed (settingsAt ws))
+    (zeros ws (factorsAt + word ws classesAt) (rowCountAt - (factorsAt + word ws classesAt))) .1 (
+      and-eq-true-iff (leb (word ws classesAt) 8) (settingsAllowed (settingsAt ws)) .1 (le-leb _ _ (p .classes), p .settings),
+      p .factors-clear,
+    ) in
     let r : R ≡ true =
-    and-eq-true-iff (leb (word ws rowCountAt) mostConnections && every (rowKept ws) (standings ws)) (zeros ws (rowsAt + 6 * word ws rowCountAt) (counterAt - (rowsAt + 6 * word ws rowCountAt))) .1
-    (and-eq-true-iff (leb (word ws rowCountAt) mostConnections) (every (rowKept ws) (standings ws)) .1 (le-leb _ _ (p .rows), p .rows-kept), p .rows-clear) in
+    and-eq-true-iff (leb (word ws rowCountAt) mostConnections && every (rowKept ws) (standings ws))
+    (zeros ws (rowsAt + 6 * word ws rowCountAt) (counterAt - (rowsAt + 6 * word ws rowCountAt))) .1 (
+      and-eq-true-iff (leb (word ws rowCountAt) mostConnections) (every (rowKept ws) (standings ws)) .1 (le-leb _ _ (p .rows), p .rows-kept),
+      p .rows-clear,
+    ) in
     let c : C ≡ true =
-    and-eq-true-iff (leb (word ws counterAt) lastSlot && leb (lengthsBelow ws 64) mostWaiting) n .1
-    (and-eq-true-iff (leb (word ws counterAt) lastSlot) (leb (lengthsBelow ws 64) mostWaiting) .1 (le-leb _ _ (p .counter), le-leb _ _ (p .total)), le-leb _ _ (p .accepted)) in
+    and-eq-true-iff (leb (word ws counterAt) lastSlot && leb (lengthsBelow ws 64) mostWaiting) n .1 (
+      and-eq-true-iff (leb (word ws counterAt) lastSlot) (leb (lengthsBelow ws 64) mostWaiting) .1
+          (le-leb _ _ (p .counter), le-leb _ _ (p .total)),
+      le-leb _ _ (p .accepted),
+    ) in
     and-eq-true-iff (l && S && R && C && L) (queuesTested ws) .1 (
-      and-eq-true-iff (l && S && R && C) L .1
-          (and-eq-true-iff (l && S && R) C .1 (and-eq-true-iff (l && S) R .1 (and-eq-true-iff l S .1 (le-leb _ _ (p .enough), s), r), c), p .link),
+      and-eq-true-iff (l && S && R && C) L .1 (
+        and-eq-true-iff (l && S && R) C .1 (and-eq-true-iff (l && S) R .1 (and-eq-true-iff l S .1 (le-leb _ _ (p .enough), s), r), c),
+        p .link,
+      ),
       queues-test ws (p .queues),
     ))
 
@@ -117,7 +130,8 @@ link-facts ws e =
     (λ (q : eqb (word ws leftAt) 0 ≡ true).
     (let z = eqb-true (word ws leftAt) 0 q in
     let c : zeros ws linkAt (lengthsAt - linkAt) ≡ true =
-    sym (ap (λ b. cond b (zeros ws linkAt (lengthsAt - linkAt)) (packetKept (contents ws) (packetAt ws linkAt) && ltb (word ws leftAt) (word ws (linkAt + 2)))) q) ∙ e in
+    sym (ap (λ b. cond b (zeros ws linkAt (lengthsAt - linkAt))
+    (packetKept (contents ws) (packetAt ws linkAt) && ltb (word ws leftAt) (word ws (linkAt + 2)))) q) ∙ e in
     record {
       clear = ap (λ b. cond b (zeros ws linkAt (lengthsAt - linkAt)) true) q ∙ c;
       kept = ap (λ n. every (packetKept (contents ws)) (onLink (linkOf n (packetAt ws linkAt)))) z;
@@ -125,13 +139,15 @@ link-facts ws e =
     }))
     (λ (q : eqb (word ws leftAt) 0 ≡ false).
     (let z = eqb-false (word ws leftAt) 0 q in
-    let t = sym (ap (λ b. cond b (zeros ws linkAt (lengthsAt - linkAt)) (packetKept (contents ws) (packetAt ws linkAt) && ltb (word ws leftAt) (word ws (linkAt + 2)))) q) ∙ e in
+    let t = sym (ap (λ b. cond b (zeros ws linkAt (lengthsAt - linkAt))
+    (packetKept (contents ws) (packetAt ws linkAt) && ltb (word ws leftAt) (word ws (linkAt + 2)))) q) ∙ e in
     let a = and-eq-true-iff (packetKept (contents ws) (packetAt ws linkAt)) (ltb (word ws leftAt) (word ws (linkAt + 2))) .0 t in
     let h : word ws leftAt < word ws (linkAt + 2) = ltb-true _ _ (a .1) in
     let l = link-carries (word ws leftAt) (packetAt ws linkAt) (omega arith) in
     record {
       clear = ap (λ b. cond b (zeros ws linkAt (lengthsAt - linkAt)) true) q;
-      kept = ap (λ l. every (packetKept (contents ws)) (onLink l)) l ∙ and-eq-true-iff (packetKept (contents ws) (packetAt ws linkAt)) true .1 (a .0, refl);
+      kept = ap (λ l. every (packetKept (contents ws)) (onLink l)) l ∙
+          and-eq-true-iff (packetKept (contents ws) (packetAt ws linkAt)) true .1 (a .0, refl);
       left = ap linkKept l ∙ within-test 1 (word ws leftAt) (word ws (linkAt + 2) - 1) (omega arith) (omega arith);
     }))
     (bool-cases (eqb (word ws leftAt) 0))
@@ -141,15 +157,19 @@ unfolding linkTested linkClear onLink linkOf every linkKept packetAt
 link-test ws f =
     ⊎-elim
     (λ (q : eqb (word ws leftAt) 0 ≡ true).
-    ap (λ b. cond b (zeros ws linkAt (lengthsAt - linkAt)) (packetKept (contents ws) (packetAt ws linkAt) && ltb (word ws leftAt) (word ws (linkAt + 2)))) q ∙
+    ap (λ b. cond b (zeros ws linkAt (lengthsAt - linkAt))
+    (packetKept (contents ws) (packetAt ws linkAt) && ltb (word ws leftAt) (word ws (linkAt + 2)))) q ∙
     sym (ap (λ b. cond b (zeros ws linkAt (lengthsAt - linkAt)) true) q) ∙ f .clear)
     (λ (q : eqb (word ws leftAt) 0 ≡ false).
     (let z = eqb-false (word ws leftAt) 0 q in
     let l = link-carries (word ws leftAt) (packetAt ws linkAt) (omega arith) in
-    let k = and-eq-true-iff (packetKept (contents ws) (packetAt ws linkAt)) true .0 (sym (ap (λ l. every (packetKept (contents ws)) (onLink l)) l) ∙ f .kept) in
+    let k = and-eq-true-iff (packetKept (contents ws) (packetAt ws linkAt)) true .0
+    (sym (ap (λ l. every (packetKept (contents ws)) (onLink l)) l) ∙ f .kept) in
     let w = within-facts 1 (word ws leftAt) (word ws (linkAt + 2) - 1) (sym (ap linkKept l) ∙ f .left) in
-    ap (λ b. cond b (zeros ws linkAt (lengthsAt - linkAt)) (packetKept (contents ws) (packetAt ws linkAt) && ltb (word ws leftAt) (word ws (linkAt + 2)))) q ∙
-    and-eq-true-iff (packetKept (contents ws) (packetAt ws linkAt)) (ltb (word ws leftAt) (word ws (linkAt + 2))) .1 (k .0, lt-ltb (word ws leftAt) (word ws (linkAt + 2)) (omega arith))))
+    ap (λ b. cond b (zeros ws linkAt (lengthsAt - linkAt))
+    (packetKept (contents ws) (packetAt ws linkAt) && ltb (word ws leftAt) (word ws (linkAt + 2)))) q ∙
+    and-eq-true-iff (packetKept (contents ws) (packetAt ws linkAt)) (ltb (word ws leftAt) (word ws (linkAt + 2))) .1
+    (k .0, lt-ltb (word ws leftAt) (word ws (linkAt + 2)) (omega arith))))
     (bool-cases (eqb (word ws leftAt) 0))
 
 -- the rows pass both tests together
@@ -157,7 +177,8 @@ rows-both : (ws : List ℕ) → every (rowKept ws) (standings ws) ≡
     (every (connectionAllowed (settingsAt ws)) (connections (contents ws)) && allowancesKept (contents ws))
 unfolding rowKept connections allowancesKept contents
 rows-both ws =
-    every-both (λ s. connectionAllowed (settingsAt ws) (s .asked)) (λ s. allowanceKept (s .asked) (word ws counterAt) (s .allowance)) (standings ws) ∙
+    every-both (λ s. connectionAllowed (settingsAt ws) (s .asked)) (λ s. allowanceKept (s .asked) (word ws counterAt) (s .allowance))
+    (standings ws) ∙
     ap (λ b. b && every (λ s. allowanceKept (s .asked) (word ws counterAt) (s .allowance)) (standings ws))
     (sym (every-map (connectionAllowed (settingsAt ws)) (λ s. s .asked) (standings ws)))
 
@@ -194,7 +215,8 @@ parts-sound ws p =
     let s = settings-facts (settingsAt ws) (p .settings) in
     let u = untagged-test ws (p .queues) in
     let n : lengthsBelow ws 64 ≡ length (waiting box) = waiting-count ws u (s .factor-most) in
-    let b = and-eq-true-iff (every (connectionAllowed (settingsAt ws)) (connections box)) (allowancesKept box) .0 (sym (rows-both ws) ∙ p .rows-kept) in
+    let b = and-eq-true-iff (every (connectionAllowed (settingsAt ws)) (connections box)) (allowancesKept box) .0
+    (sym (rows-both ws) ∙ p .rows-kept) in
     let l = link-facts ws (p .link) in
     let onlink = linkOf (word ws leftAt) (packetAt ws linkAt) in
     let tagged : (k : ℕ) → k ≤ largestFactor (settingsAt ws) → QueueFacts box (turnsAt ws + k) 0 (queueAt ws (placeOf (turnsAt ws) k)) =
@@ -208,7 +230,8 @@ parts-sound ws p =
       waiting-most = omega (arith, p .total);
       counter-most = p .counter;
       queue-count = queues-count ws;
-      in-their-queues = in-queues-all box (λ k. queueAt ws (placeOf (turnsAt ws) k)) 0 (suc (largestFactor (settingsAt ws))) (λ k a h. tagged k (omega arith) .ranked);
+      in-their-queues = in-queues-all box (λ k. queueAt ws (placeOf (turnsAt ws) k)) 0 (suc (largestFactor (settingsAt ws)))
+          (λ k a h. tagged k (omega arith) .ranked);
       serials-rise = each-queue ws (λ q. risingAbove 0 (map (λ p. p .serial) q)) (λ k h. tagged k h .rise);
       packets-kept = every-append (packetKept box) (waiting box) (onLink onlink)
           (every-flatten (packetKept box) (queuesAt ws) (each-queue ws (every (packetKept box)) (λ k h. tagged k h .kept))) (l .kept);
@@ -224,7 +247,8 @@ parts-formed ws p =
       and-eq-true-iff (leb boxWords (length ws) && unusedClear ws) (linkClear ws) .1 (
         and-eq-true-iff (leb boxWords (length ws)) (unusedClear ws) .1 (
           le-leb _ _ (p .enough),
-          and-eq-true-iff (zeros ws (factorsAt + word ws classesAt) (rowCountAt - (factorsAt + word ws classesAt))) (zeros ws (rowsAt + 6 * word ws rowCountAt) (counterAt - (rowsAt + 6 * word ws rowCountAt))) .1 (p .factors-clear, p .rows-clear),
+          and-eq-true-iff (zeros ws (factorsAt + word ws classesAt) (rowCountAt - (factorsAt + word ws classesAt)))
+              (zeros ws (rowsAt + 6 * word ws rowCountAt) (counterAt - (rowsAt + 6 * word ws rowCountAt))) .1 (p .factors-clear, p .rows-clear),
         ),
         link-facts ws (p .link) .clear,
       ),
@@ -253,7 +277,8 @@ sound-parts ws e =
       settings = f .settings-allowed;
       factors-clear = k .factors-clear;
       rows = k .rows;
-      rows-kept = rows-both ws ∙ and-eq-true-iff (every (connectionAllowed (settingsAt ws)) (connections box)) (allowancesKept box) .1 (f .connections-allowed, f .allowances-kept);
+      rows-kept = rows-both ws ∙ and-eq-true-iff (every (connectionAllowed (settingsAt ws)) (connections box)) (allowancesKept box) .1
+          (f .connections-allowed, f .allowances-kept);
       rows-clear = k .rows-clear;
       counter = f .counter-most;
       total = k .total;
@@ -263,7 +288,8 @@ sound-parts ws e =
         tagged = λ j h l. record {
           rise = queue-each ws (λ q. risingAbove 0 (map (λ p. p .serial) q)) (f .serials-rise) j h;
           kept = queue-each ws (every (packetKept box)) (every-unflatten (packetKept box) (queuesAt ws) (q .0)) j h;
-          ranked = in-queues-at box (λ k. queueAt ws (placeOf (turnsAt ws) k)) 0 (suc (largestFactor (settingsAt ws))) (f .in-their-queues) j (omega arith) (omega arith);
+          ranked = in-queues-at box (λ k. queueAt ws (placeOf (turnsAt ws) k)) 0 (suc (largestFactor (settingsAt ws)))
+              (f .in-their-queues) j (omega arith) (omega arith);
         };
         untagged = λ j h l. untagged-zero ws (k .untagged) j h l;
       };

@@ -12,7 +12,11 @@ use Rattle.words.specs.Places.{word, startOf, placeOf, tagOf, intervalAt
 
 -- The settings: D, M and as many factors as word 2 says.
 unfoldable pub settingsAt : List ℕ → Settings
-settingsAt ws = record { interval = word ws intervalAt; cycle = word ws cycleAt; factors = series (λ i. word ws i) 1 factorsAt (word ws classesAt) }
+settingsAt ws = record {
+  interval = word ws intervalAt;
+  cycle = word ws cycleAt;
+  factors = series (λ i. word ws i) 1 factorsAt (word ws classesAt);
+}
 
 -- The connection's row that starts at this word.
 unfoldable pub standingAt : List ℕ → ℕ → Standing
@@ -113,7 +117,11 @@ laid (t ∷ ts) = padded (t .size) (t .entries) ++ laid ts
 -- The tables of a box, in their order; each ends at the place of the next.
 unfoldable pub tables : Box → List Table
 tables box =
-    record { size = factorsAt - intervalAt; entries = box .settings .interval ∷ box .settings .cycle ∷ length (box .settings .factors) ∷ [] } ∷
+    record {
+      size = factorsAt - intervalAt;
+      entries =
+          box .settings .interval ∷ box .settings .cycle ∷ length (box .settings .factors) ∷ [];
+    } ∷
     record { size = rowCountAt - factorsAt; entries = box .settings .factors } ∷
     record { size = rowsAt - rowCountAt; entries = length (box .standing) ∷ [] } ∷
     record { size = counterAt - rowsAt; entries = flatten (map standingWords (box .standing)) } ∷

@@ -3,7 +3,8 @@ use Prim.Native.Nat.{ℕ, zero, suc, _+_, _-_, _*_, _%_}
 use mathlib.Core.List.{List}
 use lib.ListN.{getD}
 
--- The places, each by the one before it: D, M, P, the factors, the number of rows, the rows, counter, count of accepted packets, units left,
+-- The places, each by the one before it: D, M, P, the factors, the number of rows, the rows, counter, count of accepted packets, units
+-- left,
 -- the packet on the link, the lengths of the queues, the packets, and the number of words that a box takes.
 abbrev pub intervalAt : ℕ
 intervalAt = 0

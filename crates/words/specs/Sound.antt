@@ -18,7 +18,8 @@ zeros ws start n = every (λ w. eqb w 0) (series (λ i. word ws i) 1 start n)
 
 -- The places of the factors and of the rows that are not used are 0.
 unfoldable pub unusedClear : List ℕ → Bool
-unusedClear ws = zeros ws (factorsAt + word ws classesAt) (rowCountAt - (factorsAt + word ws classesAt)) && zeros ws (rowsAt + 6 * word ws rowCountAt) (counterAt - (rowsAt + 6 * word ws rowCountAt))
+unusedClear ws = zeros ws (factorsAt + word ws classesAt) (rowCountAt - (factorsAt + word ws classesAt)) &&
+    zeros ws (rowsAt + 6 * word ws rowCountAt) (counterAt - (rowsAt + 6 * word ws rowCountAt))
 
 -- Where no units are left on the link, its packet's words are 0.
 unfoldable pub linkClear : List ℕ → Bool

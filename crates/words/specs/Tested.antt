@@ -16,7 +16,8 @@ use Rattle.words.specs.Sound.{zeros}
 
 -- The settings are allowed, and the factors that are not used are 0.
 unfoldable pub settingsTested : List ℕ → Bool
-settingsTested ws = leb (word ws classesAt) 8 && settingsAllowed (settingsAt ws) && zeros ws (factorsAt + word ws classesAt) (rowCountAt - (factorsAt + word ws classesAt))
+settingsTested ws = leb (word ws classesAt) 8 && settingsAllowed (settingsAt ws) &&
+    zeros ws (factorsAt + word ws classesAt) (rowCountAt - (factorsAt + word ws classesAt))
 
 -- A connection's row is allowed, and its allowance is in range.
 unfoldable pub rowKept : List ℕ → Standing → Bool
@@ -25,12 +26,14 @@ rowKept ws s = connectionAllowed (settingsAt ws) (s .asked) && allowanceKept (s 
 -- At most 32 connections stand, each row is kept, and the rows that are not used are 0.
 unfoldable pub rowsTested : List ℕ → Bool
 rowsTested ws =
-    leb (word ws rowCountAt) mostConnections && every (rowKept ws) (standings ws) && zeros ws (rowsAt + 6 * word ws rowCountAt) (counterAt - (rowsAt + 6 * word ws rowCountAt))
+    leb (word ws rowCountAt) mostConnections && every (rowKept ws) (standings ws) &&
+    zeros ws (rowsAt + 6 * word ws rowCountAt) (counterAt - (rowsAt + 6 * word ws rowCountAt))
 
 -- The link is free and its words are 0, or its packet is kept and has more units than are left.
 unfoldable pub linkTested : List ℕ → Bool
 linkTested ws =
-    cond (eqb (word ws leftAt) 0) (zeros ws linkAt (lengthsAt - linkAt)) (packetKept (contents ws) (packetAt ws linkAt) && ltb (word ws leftAt) (word ws (linkAt + 2)))
+    cond (eqb (word ws leftAt) 0) (zeros ws linkAt (lengthsAt - linkAt))
+    (packetKept (contents ws) (packetAt ws linkAt) && ltb (word ws leftAt) (word ws (linkAt + 2)))
 
 -- The counter, the waiting packets and the count of accepted ones are in range.
 unfoldable pub countsTested : List ℕ → Bool

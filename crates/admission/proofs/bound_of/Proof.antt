@@ -15,14 +15,19 @@ mul-result c =
     let s = c .before .before .before in
     let f = c .before .class-factor in
     let d = c .interval in
-    omega (arith, bound-code (s .args .ws .now) (s .args .class) (f .result) (d .result) (s .pre .0) (s .pre .1 .0) (s .pre .1 .1) (f .ensures) (d .ensures) .1)
+    omega (
+      arith,
+      bound-code (s .args .ws .now) (s .args .class) (f .result) (d .result) (s .pre .0) (s .pre .1 .0) (s .pre .1 .1)
+          (f .ensures) (d .ensures) .1,
+    )
 
 returns : tie.Need-returns
 returns c =
     let s = c .before .before .before in
     let f = c .before .class-factor in
     let d = c .interval in
-    bound-code (s .args .ws .now) (s .args .class) (f .result) (d .result) (s .pre .0) (s .pre .1 .0) (s .pre .1 .1) (f .ensures) (d .ensures)
+    bound-code (s .args .ws .now) (s .args .class) (f .result) (d .result) (s .pre .0) (s .pre .1 .0) (s .pre .1 .1) (f .ensures)
+    (d .ensures)
 
 pub bound-of-spec : {M : Type 1} → statement M
 bound-of-spec = tie.close (tie.spec class-factor-requires interval-requires mul-result returns)

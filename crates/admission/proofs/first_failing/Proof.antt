@@ -33,7 +33,8 @@ interval-requires : tie.Need-interval-requires Inv-loop μ-loop Inv-search μ-se
 interval-requires c κs = c .before .before .before .pre .0 .fitting
 
 bound-of-requires : tie.Need-bound-of-requires Inv-loop μ-loop Inv-search μ-search
-bound-of-requires c κs = let s = c .before .before .before .before in (s .pre .0, (omega arith, classes-within (s .args .ws .now) (s .pre .0) .0))
+bound-of-requires c κs = let s = c .before .before .before .before in
+    (s .pre .0, (omega arith, classes-within (s .args .ws .now) (s .pre .0) .0))
 
 class-count-requires : tie.Need-class-count-requires Inv-loop μ-loop Inv-search μ-search
 class-count-requires c κs = c .before .before .before .before .before .pre .0 .fitting
@@ -63,8 +64,10 @@ search-holds c =
     let l = c .before .bound-of2 in
     let m = c .cycle in
     record {
-      knows = known (s .args .ws .now) (s .args .c) (n .result) (d .result) (f .result) (p .result) (l .result) (m .result) (s .pre .0) (s .pre .1)
-          (n .ensures .0 ∙ c .before .before .before .before .before .before .standing-count .ensures) (d .ensures) (f .ensures .0) (p .ensures .0) (l .ensures)
+      knows = known (s .args .ws .now) (s .args .c) (n .result) (d .result) (f .result) (p .result) (l .result) (m .result) (s .pre .0)
+          (s .pre .1)
+          (n .ensures .0 ∙ c .before .before .before .before .before .before .standing-count .ensures) (d .ensures) (f .ensures .0)
+          (p .ensures .0) (l .ensures)
           (m .ensures);
       t-most = omega arith;
       held = λ k h. absurd (omega arith);
@@ -96,7 +99,8 @@ way-of-requires c κs =
 loop-holds : tie.Need-loop-holds Inv-loop μ-loop Inv-search μ-search
 loop-holds c =
     let k = c .before .before .before .before .search .inv in
-    begins k (c .before .before .before .if1 .left) (c .before .before .speaks-of .ensures ∙ speaks-range (c .before .before .before .before .search .t) (k .knows)) (c .before .term-of .ensures) (c .way-of .ensures)
+    begins k (c .before .before .before .if1 .left) (c .before .before .speaks-of .ensures ∙
+    speaks-range (c .before .before .before .before .search .t) (k .knows)) (c .before .term-of .ensures) (c .way-of .ensures)
 
 asked-at-requires : tie.Need-asked-at-requires Inv-loop μ-loop Inv-search μ-search
 asked-at-requires c κs =
@@ -109,13 +113,22 @@ term-of-requires-2 c κs =
     let k = a .outer .knows in (
       k .ready,
       (
-        row-allowed _ (c .before .before .loop .i) (c .asked-at .result) (k .ready) (omega (arith, k .rows-are, c .before .loop-test .taken)) (c .asked-at .ensures),
+        row-allowed _ (c .before .before .loop .i) (c .asked-at .result) (k .ready)
+            (omega (arith, k .rows-are, c .before .loop-test .taken)) (c .asked-at .ensures),
         omega (arith, a .t-below, k .end-most),
       ),
     )
 
 add-sum : tie.Need-add-sum Inv-loop μ-loop Inv-search μ-search
-add-sum c = let a = c .before .before .before .loop .inv in omega (arith, a .sum-most, c .term-of2 .ensures .1, c .before .before .loop-test .taken, a .outer .knows .rows-are, a .outer .knows .ready .fitting .rows)
+add-sum c = let a = c .before .before .before .loop .inv in
+    omega (
+      arith,
+      a .sum-most,
+      c .term-of2 .ensures .1,
+      c .before .before .loop-test .taken,
+      a .outer .knows .rows-are,
+      a .outer .knows .ready .fitting .rows,
+    )
 
 way-of-requires-2 : tie.Need-way-of-requires-2 Inv-loop μ-loop Inv-search μ-search
 way-of-requires-2 c κs =
@@ -123,7 +136,8 @@ way-of-requires-2 c κs =
     let k = a .outer .knows in (
       k .ready,
       (
-        row-allowed _ (c .before .before .before .loop .i) (c .before .asked-at .result) (k .ready) (omega (arith, k .rows-are, c .before .before .loop-test .taken)) (c .before .asked-at .ensures),
+        row-allowed _ (c .before .before .before .loop .i) (c .before .asked-at .result) (k .ready)
+            (omega (arith, k .rows-are, c .before .before .loop-test .taken)) (c .before .asked-at .ensures),
         (omega (arith, a .t-below, k .end-most), a .speaks-is),
       ),
     )
@@ -132,7 +146,8 @@ larger-requires : tie.Need-larger-requires Inv-loop μ-loop Inv-search μ-search
 larger-requires c κs = tt
 
 add-i : tie.Need-add-i Inv-loop μ-loop Inv-search μ-search
-add-i c = let a = c .before .before .before .before .before .before .loop .inv in omega (arith, a .i-most, a .outer .knows .rows-are, a .outer .knows .ready .fitting .rows)
+add-i c = let a = c .before .before .before .before .before .before .loop .inv in
+    omega (arith, a .i-most, a .outer .knows .rows-are, a .outer .knows .ready .fitting .rows)
 
 loop-less : tie.Need-loop-less Inv-loop μ-loop Inv-search μ-search
 loop-less c = omega (arith, c .before .before .before .before .before .loop-test .taken)
@@ -140,10 +155,13 @@ loop-less c = omega (arith, c .before .before .before .before .before .loop-test
 loop-again : tie.Need-loop-again Inv-loop μ-loop Inv-search μ-search
 loop-again c =
     rw (c .before .larger .ensures)
-    (adds (c .before .before .before .before .before .before .loop .inv) (c .before .before .before .before .before .loop-test .taken) (c .before .before .before .before .asked-at .ensures) (c .before .before .before .term-of2 .ensures) (c .before .before .way-of2 .ensures))
+    (adds (c .before .before .before .before .before .before .loop .inv) (c .before .before .before .before .before .loop-test .taken)
+    (c .before .before .before .before .asked-at .ensures) (c .before .before .before .term-of2 .ensures)
+    (c .before .before .way-of2 .ensures))
 
 add-if3 : tie.Need-add-if3 Inv-loop μ-loop Inv-search μ-search
-add-if3 c = let a = c .before .loop .inv in omega (arith, a .sum-most, a .way-most, a .i-most, a .outer .knows .rows-are, a .outer .knows .ready .fitting .rows)
+add-if3 c = let a = c .before .loop .inv in omega
+    (arith, a .sum-most, a .way-most, a .i-most, a .outer .knows .rows-are, a .outer .knows .ready .fitting .rows)
 
 add-t : tie.Need-add-t Inv-loop μ-loop Inv-search μ-search
 add-t c = let a = c .before .before .loop .inv in omega (arith, a .t-below, a .outer .knows .end-most)

@@ -30,7 +30,11 @@ mul-sum : tie.Need-mul-sum Inv-loop μ-loop
 mul-sum c =
     let s = c .before .before .before .before .before .before in
     let m = c .before .before .cycle in
-    omega (arith, adds-most (s .args .ws .now) (s .args .c) (m .result) (s .pre .0) (s .pre .1) (m .ensures ∙ cycle-word (s .args .ws .now)))
+    omega (
+      arith,
+      adds-most (s .args .ws .now) (s .args .c) (m .result) (s .pre .0) (s .pre .1)
+          (m .ensures ∙ cycle-word (s .args .ws .now)),
+    )
 
 loop-holds : tie.Need-loop-holds Inv-loop μ-loop
 loop-holds c =
@@ -48,27 +52,42 @@ asked-at-requires c κs =
 div-sum-2 : tie.Need-div-sum-2 Inv-loop μ-loop
 div-sum-2 c =
     let k = c .before .before .before .loop .inv in
-    asked-small _ (c .before .asked-at .result) (next-allowed k (c .before .before .loop-test .taken) (c .before .asked-at .ensures)) .period-least
+    asked-small _ (c .before .asked-at .result) (next-allowed k (c .before .before .loop-test .taken) (c .before .asked-at .ensures))
+    .period-least
 
 mul-sum-2 : tie.Need-mul-sum-2 Inv-loop μ-loop
-mul-sum-2 c = omega (arith, next-most (c .before .before .before .before .loop .inv) (c .before .before .before .loop-test .taken) (c .before .before .asked-at .ensures))
+mul-sum-2 c = omega (
+  arith,
+  next-most (c .before .before .before .before .loop .inv) (c .before .before .before .loop-test .taken)
+      (c .before .before .asked-at .ensures),
+)
 
 add-sum : tie.Need-add-sum Inv-loop μ-loop
 add-sum c =
     let k = c .before .before .before .before .loop .inv in
-    omega (arith, next-most k (c .before .before .before .loop-test .taken) (c .before .before .asked-at .ensures), k .sum-most, k .rows-are, k .ready .fitting .rows, c .before .before .before .loop-test .taken)
+    omega (
+      arith,
+      next-most k (c .before .before .before .loop-test .taken) (c .before .before .asked-at .ensures),
+      k .sum-most,
+      k .rows-are,
+      k .ready .fitting .rows,
+      c .before .before .before .loop-test .taken,
+    )
 
 add-i : tie.Need-add-i Inv-loop μ-loop
-add-i c = let k = c .before .before .before .before .loop .inv in omega (arith, k .rows-are, k .ready .fitting .rows, c .before .before .before .loop-test .taken)
+add-i c = let k = c .before .before .before .before .loop .inv in
+    omega (arith, k .rows-are, k .ready .fitting .rows, c .before .before .before .loop-test .taken)
 
 loop-less : tie.Need-loop-less Inv-loop μ-loop
 loop-less c = omega (arith, c .before .before .before .loop-test .taken)
 
 loop-again : tie.Need-loop-again Inv-loop μ-loop
-loop-again c = rates-on (c .before .before .before .before .loop .inv) (c .before .before .before .loop-test .taken) (c .before .before .asked-at .ensures)
+loop-again c = rates-on (c .before .before .before .before .loop .inv) (c .before .before .before .loop-test .taken)
+    (c .before .before .asked-at .ensures)
 
 returns : tie.Need-returns Inv-loop μ-loop
-returns c = rated (c .before .loop .inv) (c .loop-test .left) (c .before .before .before .before .before .before .before .before .args .c) refl
+returns c = rated (c .before .loop .inv) (c .loop-test .left)
+    (c .before .before .before .before .before .before .before .before .args .c) refl
 
 pub rate-spec : {M : Type 1} → statement M
 rate-spec =

@@ -6,7 +6,6 @@ use mathlib.Core.Path.{_∙_, ap}
 use native.Mathlib.Omega.{arith}
 use Rattle.meaning.specs.Envelope.{envelope, delayed}
 use Rattle.admission.proofs.Tables.{interval-read, asked-small, asked-class, term-first, term-above}
-use borrow.Author.Needs.{needs}
 use Rattle.admission.proofs.term_of.Statement.{statement}
 use Rattle.admission.proofs.term_of.Tie as tie
 
@@ -39,8 +38,10 @@ add-delayed c =
 delayed-requires-2 : tie.Need-delayed-requires-2
 delayed-requires-2 c κs =
     let s = c .before .before .before .before in
-    let d = c .interval in
-    (asked-small (s .args .ws .now) (s .args .c) (s .pre .1 .0), omega (arith, interval-read (s .args .ws .now) (d .result) (s .pre .0) (d .ensures) .1, s .pre .1 .1))
+    let d = c .interval in (
+      asked-small (s .args .ws .now) (s .args .c) (s .pre .1 .0),
+      omega (arith, interval-read (s .args .ws .now) (d .result) (s .pre .0) (d .ensures) .1, s .pre .1 .1),
+    )
 
 returns-2 : tie.Need-returns-2
 returns-2 c =
@@ -49,7 +50,8 @@ returns-2 c =
     let ws = s .args .ws .now in
     let turn = c .before .interval in
     let e = interval-read ws (turn .result) (s .pre .0) (turn .ensures) .0 in (
-      c .delayed2 .ensures .0 ∙ ap (λ d. delayed (envelope k) d (s .args .t + turn .result)) (c .before .before .before .bound-of .ensures .0) ∙
+      c .delayed2 .ensures .0 ∙ ap (λ d. delayed (envelope k) d (s .args .t + turn .result))
+          (c .before .before .before .bound-of .ensures .0) ∙
           ap (λ n. delayed (envelope k) (bound (settingsAt ws) (k .class)) (s .args .t + n)) e ∙
           term-above (s .args .ws .now) k (s .args .t) (c .before .before .if1 .left),
       c .delayed2 .ensures .1,

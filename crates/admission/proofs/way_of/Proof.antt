@@ -3,14 +3,15 @@ use borrow.Author.Tests.{not-true, not-false}
 use mathlib.Core.Path.{_∙_, sym}
 use native.Mathlib.Omega.{arith}
 use Rattle.admission.proofs.Tables.{interval-read, asked-small, asked-class, way-silent, way-longest, way-nothing}
-use borrow.Author.Needs.{needs}
 use Rattle.admission.proofs.way_of.Statement.{statement}
 use Rattle.admission.proofs.way_of.Tie as tie
 
 returns : tie.Need-returns
 returns c =
-    let s = c .before .before in
-    (way-silent (s .args .ws .now) (s .args .c) (s .args .t) (sym (s .pre .1 .1 .1) ∙ not-true (s .args .speaks) (c .if1 .taken)), omega arith)
+    let s = c .before .before in (
+      way-silent (s .args .ws .now) (s .args .c) (s .args .t) (sym (s .pre .1 .1 .1) ∙ not-true (s .args .speaks) (c .if1 .taken)),
+      omega arith,
+    )
 
 bound-of-requires : tie.Need-bound-of-requires
 bound-of-requires c κs = let s = c .before .before in (s .pre .0, asked-class (s .args .ws .now) (s .args .c) (s .pre .1 .0))
@@ -31,7 +32,8 @@ returns-2 c =
     let h = c .if2 .taken in
     let turn = c .before .interval in
     let e = interval-read (s .args .ws .now) (turn .result) (s .pre .0) (turn .ensures) .0 in (
-      way-longest (s .args .ws .now) (s .args .c) (s .args .t) (sym (s .pre .1 .1 .1) ∙ not-false (s .args .speaks) (c .before .before .before .if1 .left)) (omega arith),
+      way-longest (s .args .ws .now) (s .args .c) (s .args .t)
+          (sym (s .pre .1 .1 .1) ∙ not-false (s .args .speaks) (c .before .before .before .if1 .left)) (omega arith),
       asked-small (s .args .ws .now) (s .args .c) (s .pre .1 .0) .longest-most,
     )
 

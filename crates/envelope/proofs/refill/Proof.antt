@@ -1,5 +1,5 @@
 -- `envelope::refill` meets its contract: one law of `Refills` for each way through the code.
-use Prim.Native.Nat.{_-_, _/_}
+use Prim.Native.Nat.{_-_}
 use mathlib.Core.Path.{sym, _∙_}
 use borrow.Author.Needs.{needs}
 use native.Mathlib.Nat.{div-le-self}

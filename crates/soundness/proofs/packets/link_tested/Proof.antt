@@ -5,7 +5,6 @@ use Rattle.words.specs.Contents.{contents, packetAt}
 use mathlib.Core.Bool.{true, false}
 use borrow.Author.Tests.{eq-eqb, ne-eqb, not-true, not-false}
 use mathlib.Core.Path.{_≡_, sym, _∙_}
-use Prim.Native.Nat.{_-_}
 use borrow.Author.Needs.{needs}
 use Rattle.soundness.proofs.packets.link_tested.Statement.{statement}
 use Rattle.soundness.proofs.packets.link_tested.Tie as tie
@@ -38,7 +37,8 @@ returns-3 : tie.Need-returns-3
 unfolding linkTested
 returns-3 c =
     let ws = c .before .before .before .before .before .before .args .ws .now in
-    let e : packetKept (contents ws) (packetAt ws linkAt) ≡ true = sym (c .before .before .packet-kept .ensures) ∙ not-false _ (c .before .if2 .left) in
+    let e : packetKept (contents ws) (packetAt ws linkAt) ≡ true = sym (c .before .before .packet-kept .ensures) ∙
+    not-false _ (c .before .if2 .left) in
     simp (ne-eqb _ _ (c .before .before .before .if1 .left), e)
 
 pub link-tested-spec : {M : Type 1} → statement M

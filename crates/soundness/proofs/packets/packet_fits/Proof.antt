@@ -6,7 +6,6 @@ use Rattle.words.specs.Contents.{contents, packetAt}
 use mathlib.Core.Bool.{true, false, and-false}
 use borrow.Author.Tests.{lt-ltb, le-ltb, not-true, not-false}
 use mathlib.Core.Path.{_≡_, sym, ap, _∙_}
-use Prim.Native.Nat.{_-_}
 use borrow.Author.Needs.{needs}
 use Rattle.soundness.proofs.packets.packet_fits.Statement.{statement}
 use Rattle.soundness.proofs.packets.packet_fits.Tie as tie
@@ -40,8 +39,10 @@ unfolding packetFits packetAt
 returns-3 c =
     let ws = c .before .before .before .before .before .before .args .ws .now in
     let at = c .before .before .before .before .before .before .args .at in
-    let e : packetKept (contents ws) (packetAt ws at) ≡ true = sym (c .before .before .packet-kept .ensures) ∙ not-false _ (c .before .if2 .left) in
-    sym (simp (lt-ltb _ _ (c .before .before .before .if1 .left), e) (ap (λ r. eqb r (c .before .before .before .before .before .before .args .rank)) (sym (c .rank-of .ensures))))
+    let e : packetKept (contents ws) (packetAt ws at) ≡ true = sym (c .before .before .packet-kept .ensures) ∙
+    not-false _ (c .before .if2 .left) in
+    sym (simp (lt-ltb _ _ (c .before .before .before .if1 .left), e)
+    (ap (λ r. eqb r (c .before .before .before .before .before .before .args .rank)) (sym (c .rank-of .ensures))))
 
 pub packet-fits-spec : {M : Type 1} → statement M
 packet-fits-spec =

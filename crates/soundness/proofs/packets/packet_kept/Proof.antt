@@ -80,7 +80,8 @@ mul-is-within-4 c = search needs
 
 shared-slice-read-is-within-5 : tie.Need-shared-slice-read-is-within-5
 shared-slice-read-is-within-5 c =
-    let f = within-facts 1 _ _ (sym (c .before .before .before .before .is-within2 .ensures) ∙ not-false _ (c .before .before .before .if2 .left)) in
+    let f = within-facts 1 _ _ (sym (c .before .before .before .before .is-within2 .ensures) ∙
+    not-false _ (c .before .before .before .if2 .left)) in
     let w = c .before .wide .ensures .0 in
     let k = c .before .before .before .before .before .before .before .before .before .before .before .before .pre .0 in
     omega (arith, k .enough, k .rows)
@@ -90,12 +91,15 @@ is-within-requires-3 c κs = search needs
 
 returns-3 : tie.Need-returns-3
 returns-3 c =
-    let ws = c .before .before .before .before .before .before .before .before .before .before .before .before .before .before .args .ws .now in
+    let ws = c .before .before .before .before .before .before .before .before .before .before .before .before .before .before .args .ws
+    .now in
     let at = c .before .before .before .before .before .before .before .before .before .before .before .before .before .before .args .at in
     let n = word ws (at + 1) in
-    let f = within-facts 1 n (word ws rowCountAt) (sym (c .before .before .before .before .before .before .is-within2 .ensures) ∙ not-false _ (c .before .before .before .before .before .if2 .left)) in
+    let f = within-facts 1 n (word ws rowCountAt) (sym (c .before .before .before .before .before .before .is-within2 .ensures) ∙
+    not-false _ (c .before .before .before .before .before .if2 .left)) in
     let e : within 1 (word ws (at + 2)) (connection (contents ws) n .longest) ≡ false =
-    ap (within 1 (word ws (at + 2))) (connection-longest ws n (f .0) (f .1) ∙ ap (λ m. word ws (1 + (rowsAt - 6 + 6 * m))) (sym (c .before .before .before .wide .ensures .0))) ∙
+    ap (within 1 (word ws (at + 2))) (connection-longest ws n (f .0) (f .1) ∙
+    ap (λ m. word ws (1 + (rowsAt - 6 + 6 * m))) (sym (c .before .before .before .wide .ensures .0))) ∙
     sym (c .before .is-within3 .ensures) ∙ not-true _ (c .if3 .taken) in
     sym (packet-parts ws at ∙ simp (e, and-false))
 
@@ -113,14 +117,21 @@ shared-slice-read-result-2 c = search needs
 
 returns-4 : tie.Need-returns-4
 returns-4 c =
-    let ws = c .before .before .before .before .before .before .before .before .before .before .before .before .before .before .before .before .args .ws .now in
-    let at = c .before .before .before .before .before .before .before .before .before .before .before .before .before .before .before .before .args .at in
+    let ws = c .before .before .before .before .before .before .before .before .before .before .before .before .before .before .before
+    .before .args .ws .now in
+    let at = c .before .before .before .before .before .before .before .before .before .before .before .before .before .before .before
+    .before .args .at in
     let n = word ws (at + 1) in
-    let a : within 1 (word ws at) (word ws acceptedAt) ≡ true = sym (c .before .before .before .before .before .before .before .before .before .before .before .before .is-within .ensures) ∙ not-false _ (c .before .before .before .before .before .before .before .before .before .before .before .if1 .left) in
-    let b : within 1 n (word ws rowCountAt) ≡ true = sym (c .before .before .before .before .before .before .before .before .is-within2 .ensures) ∙ not-false _ (c .before .before .before .before .before .before .before .if2 .left) in
+    let a : within 1 (word ws at) (word ws acceptedAt) ≡ true =
+    sym (c .before .before .before .before .before .before .before .before .before .before .before .before .is-within .ensures) ∙
+    not-false _ (c .before .before .before .before .before .before .before .before .before .before .before .if1 .left) in
+    let b : within 1 n (word ws rowCountAt) ≡ true = sym
+    (c .before .before .before .before .before .before .before .before .is-within2 .ensures) ∙
+    not-false _ (c .before .before .before .before .before .before .before .if2 .left) in
     let f = within-facts 1 n (word ws rowCountAt) b in
     let e : within 1 (word ws (at + 2)) (connection (contents ws) n .longest) ≡ true =
-    ap (within 1 (word ws (at + 2))) (connection-longest ws n (f .0) (f .1) ∙ ap (λ m. word ws (1 + (rowsAt - 6 + 6 * m))) (sym (c .before .before .before .before .before .wide .ensures .0))) ∙
+    ap (within 1 (word ws (at + 2))) (connection-longest ws n (f .0) (f .1) ∙
+    ap (λ m. word ws (1 + (rowsAt - 6 + 6 * m))) (sym (c .before .before .before .before .before .wide .ensures .0))) ∙
     sym (c .before .before .before .is-within3 .ensures) ∙ not-false _ (c .before .before .if3 .left) in
     sym (packet-parts ws at ∙ simp (a, b, e))
 

@@ -11,7 +11,9 @@ use Rattle.soundness.proofs.packets.packets_fit.Statement.{statement}
 use Rattle.soundness.proofs.packets.packets_fit.Tie as tie
 
 abbrev Inv-loop : tie.InvT-loop
-Inv-loop ws start count rank before₀ at₀ i₀ before at i = (i ≤ count) × (at ≡ start + 4 * i) × (packetsFit (contents ws) rank before (series (packetAt ws) 4 at (count - i)) ≡ packetsFit (contents ws) rank 0 (series (packetAt ws) 4 start count))
+Inv-loop ws start count rank before₀ at₀ i₀ before at i = (i ≤ count) × (at ≡ start + 4 * i)
+    × (packetsFit (contents ws) rank before (series (packetAt ws) 4 at (count - i))
+    ≡ packetsFit (contents ws) rank 0 (series (packetAt ws) 4 start count))
 
 abbrev μ-loop : tie.MeasureT-loop
 μ-loop ws start count rank before₀ at₀ i₀ before at i = count - i
@@ -60,7 +62,10 @@ loop-again c =
     let ws = a .ws .now in
     let e : packetsFit (contents ws) (a .rank) (s .before) (series (packetAt ws) 4 (s .at) (a .count - s .i)) ≡
     packetsFit (contents ws) (a .rank) (word ws (s .at)) (series (packetAt ws) 4 (s .at + 4) (a .count - (s .i + 1))) =
-    rw (series-next (packetAt ws) 4 (s .at) (a .count) (s .i) (c .before .before .before .loop-test .taken), sym (c .before .before .packet-fits .ensures) ∙ not-false _ (c .before .if1 .left)) in
+    rw (
+      series-next (packetAt ws) 4 (s .at) (a .count) (s .i) (c .before .before .before .loop-test .taken),
+      sym (c .before .before .packet-fits .ensures) ∙ not-false _ (c .before .if1 .left),
+    ) in
     (omega arith, omega arith, sym e ∙ s .inv .2)
 
 returns-2 : tie.Need-returns-2 Inv-loop μ-loop

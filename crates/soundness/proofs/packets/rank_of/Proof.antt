@@ -70,8 +70,10 @@ shared-slice-read-wide-5 c =
     let n = word ws (s .args .at + 1) in
     let f = kept-connection ws (s .args .at) (s .pre .1) in
     let k = s .pre .0 .0 in
-    let e : (rowsAt - 6 + 6 * c .before .before .before .before .before .before .wide .result) ≡ rowsAt + 6 * (n - 1) = omega (arith, c .before .before .before .before .before .before .wide .ensures .0) in
-    let q : c .before .before .before .before .wide2 .result ≡ word ws (rowsAt + 6 * (n - 1)) = c .before .before .before .before .wide2 .ensures .0 ∙ ap (λ i. word ws i) e in
+    let e : (rowsAt - 6 + 6 * c .before .before .before .before .before .before .wide .result) ≡ rowsAt + 6 * (n - 1) =
+    omega (arith, c .before .before .before .before .before .before .wide .ensures .0) in
+    let q : c .before .before .before .before .wide2 .result ≡ word ws (rowsAt + 6 * (n - 1)) =
+    c .before .before .before .before .wide2 .ensures .0 ∙ ap (λ i. word ws i) e in
     omega (arith, k .enough, k .classes, k .class-most (n - 1) (omega arith))
 
 wide-requires-4 : tie.Need-wide-requires-4
@@ -87,9 +89,11 @@ returns c =
     let at = s .args .at in
     let f = kept-connection ws at (s .pre .1) in
     let a = c .before .before .wide3 .ensures .0 in
-    let d = c .before .before .before .before .before .wide2 .ensures .0 ∙ ap (λ m. word ws (rowsAt - 6 + 6 * m)) (c .before .before .before .before .before .before .before .wide .ensures .0) in
+    let d = c .before .before .before .before .before .wide2 .ensures .0 ∙
+    ap (λ m. word ws (rowsAt - 6 + 6 * m)) (c .before .before .before .before .before .before .before .wide .ensures .0) in
     let b = c .wide4 .ensures .0 ∙ ap (λ m. word ws (factorsAt - 1 + m)) d in
-    sym (rank-at ws at (s .pre .0 .0) (f .0) (f .1) ∙ ap (λ m. m + word ws (factorsAt - 1 + word ws ((rowsAt - 6 + 6 * word ws (at + 1))))) (sym a) ∙
+    sym (rank-at ws at (s .pre .0 .0) (f .0) (f .1) ∙
+    ap (λ m. m + word ws (factorsAt - 1 + word ws ((rowsAt - 6 + 6 * word ws (at + 1))))) (sym a) ∙
     ap (λ m. c .before .before .wide3 .result + m) (sym b))
 
 pub rank-of-spec : {M : Type 1} → statement M

@@ -17,15 +17,28 @@ returns c = simp (eq-eqb _ _ (c .if1 .taken), le-ltb (c .before .args .credit) (
 
 returns-2 : tie.Need-returns-2
 unfolding allowanceKept
-returns-2 c = simp (ne-eqb _ _ (c .before .if1 .left), le-ltb (c .before .before .args .credit) (c .before .before .args .burst) (omega arith))
+returns-2 c = simp (
+  ne-eqb _ _ (c .before .if1 .left),
+  le-ltb (c .before .before .args .credit) (c .before .before .args .burst) (omega arith),
+)
 
 returns-3 : tie.Need-returns-3
 unfolding allowanceKept within
-returns-3 c = simp (ne-eqb _ _ (c .before .before .if1 .left), lt-ltb (c .before .before .before .args .credit) (c .before .before .before .args .burst) (omega arith), lt-leb _ _ (c .if3 .taken))
+returns-3 c = simp (
+  ne-eqb _ _ (c .before .before .if1 .left),
+  lt-ltb (c .before .before .before .args .credit) (c .before .before .before .args .burst) (omega arith),
+  lt-leb _ _ (c .if3 .taken),
+)
 
 returns-4 : tie.Need-returns-4
 unfolding allowanceKept within
-returns-4 c = simp (ne-eqb _ _ (c .before .before .before .if1 .left), lt-ltb (c .before .before .before .before .args .credit) (c .before .before .before .before .args .burst) (omega arith), le-leb 1 (c .before .before .before .before .args .next) (omega arith), le-leb (c .before .before .before .before .args .next) (c .before .before .before .before .args .counter + c .before .before .before .before .args .period) (omega arith))
+returns-4 c = simp (
+  ne-eqb _ _ (c .before .before .before .if1 .left),
+  lt-ltb (c .before .before .before .before .args .credit) (c .before .before .before .before .args .burst) (omega arith),
+  le-leb 1 (c .before .before .before .before .args .next) (omega arith),
+  le-leb (c .before .before .before .before .args .next)
+      (c .before .before .before .before .args .counter + c .before .before .before .before .args .period) (omega arith),
+)
 
 sub-result : tie.Need-sub-result
 sub-result c = search needs

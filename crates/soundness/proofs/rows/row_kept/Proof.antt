@@ -6,7 +6,7 @@ use Rattle.words.proofs.TableReads.{row-parts}
 use mathlib.Core.Bool.{true, false, and-false}
 use borrow.Author.Tests.{eq-eqb, ne-eqb, not-true, not-false}
 use mathlib.Core.Path.{_≡_, sym, _∙_}
-use Prim.Native.Nat.{_+_, _-_, _%_}
+use Prim.Native.Nat.{_+_, _%_}
 use borrow.Author.Needs.{needs}
 use Rattle.soundness.proofs.rows.row_kept.Statement.{statement}
 use Rattle.soundness.proofs.rows.row_kept.Tie as tie
@@ -85,8 +85,10 @@ is-within-requires-4 c κs = search needs
 
 returns-4 : tie.Need-returns-4
 returns-4 c =
-    let ws = c .before .before .before .before .before .before .before .before .before .before .before .before .before .before .before .args .ws .now in
-    let at = c .before .before .before .before .before .before .before .before .before .before .before .before .before .before .before .args .at in
+    let ws = c .before .before .before .before .before .before .before .before .before .before .before .before .before .before .before .args
+    .ws .now in
+    let at = c .before .before .before .before .before .before .before .before .before .before .before .before .before .before .before .args
+    .at in
     let e : within 1 (word ws (at + 3)) (word ws cycleAt) ≡ false = sym (c .before .is-within4 .ensures) ∙ not-true _ (c .if4 .taken) in
     sym (row-parts ws at ∙ simp (e, and-false))
 
@@ -95,8 +97,10 @@ rem-if5 c = within-facts 1 _ _ (sym (c .before .is-within4 .ensures) ∙ not-fal
 
 returns-5 : tie.Need-returns-5
 returns-5 c =
-    let ws = c .before .before .before .before .before .before .before .before .before .before .before .before .before .before .before .before .args .ws .now in
-    let at = c .before .before .before .before .before .before .before .before .before .before .before .before .before .before .before .before .args .at in
+    let ws = c .before .before .before .before .before .before .before .before .before .before .before .before .before .before .before
+    .before .args .ws .now in
+    let at = c .before .before .before .before .before .before .before .before .before .before .before .before .before .before .before
+    .before .args .at in
     let e : eqb (word ws cycleAt % word ws (at + 3)) 0 ≡ false = ne-eqb _ 0 (c .if5 .taken) in
     sym (row-parts ws at ∙ simp (e, and-false))
 
@@ -126,12 +130,23 @@ allowance-kept-requires c κs = search needs
 
 returns-6 : tie.Need-returns-6
 returns-6 c =
-    let ws = c .before .before .before .before .before .before .before .before .before .before .before .before .before .before .before .before .before .before .before .before .args .ws .now in
-    let at = c .before .before .before .before .before .before .before .before .before .before .before .before .before .before .before .before .before .before .before .before .args .at in
-    let a : within 1 (word ws at) (word ws classesAt) ≡ true = sym (c .before .before .before .before .before .before .before .before .before .before .before .before .before .before .before .before .is-within .ensures) ∙ not-false _ (c .before .before .before .before .before .before .before .before .before .before .before .before .before .before .before .if1 .left) in
-    let b : within 1 (word ws (at + 1)) 64 ≡ true = sym (c .before .before .before .before .before .before .before .before .before .before .before .before .before .is-within2 .ensures) ∙ not-false _ (c .before .before .before .before .before .before .before .before .before .before .before .before .if2 .left) in
-    let d : within 1 (word ws (at + 2)) 64 ≡ true = sym (c .before .before .before .before .before .before .before .before .before .before .is-within3 .ensures) ∙ not-false _ (c .before .before .before .before .before .before .before .before .before .if3 .left) in
-    let e : within 1 (word ws (at + 3)) (word ws cycleAt) ≡ true = sym (c .before .before .before .before .before .before .is-within4 .ensures) ∙ not-false _ (c .before .before .before .before .before .if4 .left) in
+    let ws = c .before .before .before .before .before .before .before .before .before .before .before .before .before .before .before
+    .before .before .before .before .before .args .ws .now in
+    let at = c .before .before .before .before .before .before .before .before .before .before .before .before .before .before .before
+    .before .before .before .before .before .args .at in
+    let a : within 1 (word ws at) (word ws classesAt) ≡ true =
+    sym (c .before .before .before .before .before .before .before .before .before .before .before .before .before .before .before .before
+    .is-within .ensures) ∙ not-false _ (c .before .before .before .before .before .before .before .before .before .before .before .before
+    .before .before .before .if1 .left) in
+    let b : within 1 (word ws (at + 1)) 64 ≡ true = sym
+    (c .before .before .before .before .before .before .before .before .before .before .before .before .before .is-within2 .ensures) ∙
+    not-false _ (c .before .before .before .before .before .before .before .before .before .before .before .before .if2 .left) in
+    let d : within 1 (word ws (at + 2)) 64 ≡ true = sym
+    (c .before .before .before .before .before .before .before .before .before .before .is-within3 .ensures) ∙
+    not-false _ (c .before .before .before .before .before .before .before .before .before .if3 .left) in
+    let e : within 1 (word ws (at + 3)) (word ws cycleAt) ≡ true =
+    sym (c .before .before .before .before .before .before .is-within4 .ensures) ∙
+    not-false _ (c .before .before .before .before .before .if4 .left) in
     let f : eqb (word ws cycleAt % word ws (at + 3)) 0 ≡ true = eq-eqb _ 0 (c .before .before .before .before .if5 .left) in
     sym (row-parts ws at ∙ simp (a, b, d, e, f) (sym (c .allowance-kept .ensures)))
 

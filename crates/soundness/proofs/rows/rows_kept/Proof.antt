@@ -13,7 +13,8 @@ use Rattle.soundness.proofs.rows.rows_kept.Statement.{statement}
 use Rattle.soundness.proofs.rows.rows_kept.Tie as tie
 
 abbrev Inv-loop : tie.InvT-loop
-Inv-loop ws count at₀ i₀ at i = (i ≤ count) × (at ≡ rowsAt + 6 * i) × (count ≤ 32) × (every (rowKept ws) (series (standingAt ws) 6 at (count - i)) ≡ every (rowKept ws) (standings ws))
+Inv-loop ws count at₀ i₀ at i = (i ≤ count) × (at ≡ rowsAt + 6 * i) × (count ≤ 32)
+    × (every (rowKept ws) (series (standingAt ws) 6 at (count - i)) ≡ every (rowKept ws) (standings ws))
 
 abbrev μ-loop : tie.MeasureT-loop
 μ-loop ws count at₀ i₀ at i = count - i
@@ -38,7 +39,8 @@ returns : tie.Need-returns Inv-loop μ-loop
 returns c =
     let s = c .before .before .before .loop in
     let ws = c .before .before .before .before .before .before .before .args .ws .now in
-    sym (sym (s .inv .3) ∙ every-stop (rowKept ws) (standingAt ws) 6 (s .at) (c .before .before .before .before .wide .result) (s .i) (c .before .before .loop-test .taken)
+    sym (sym (s .inv .3) ∙ every-stop (rowKept ws) (standingAt ws) 6 (s .at) (c .before .before .before .before .wide .result) (s .i)
+    (c .before .before .loop-test .taken)
     (sym (c .before .row-kept .ensures) ∙ not-true _ (c .if1 .taken)))
 
 add-at : tie.Need-add-at Inv-loop μ-loop
@@ -57,7 +59,8 @@ loop-again c =
       omega arith,
       omega arith,
       omega arith,
-      sym (every-next (rowKept ws) (standingAt ws) 6 (s .at) (c .before .before .before .before .wide .result) (s .i) (c .before .before .loop-test .taken)
+      sym (every-next (rowKept ws) (standingAt ws) 6 (s .at) (c .before .before .before .before .wide .result) (s .i)
+          (c .before .before .loop-test .taken)
           (sym (c .before .row-kept .ensures) ∙ not-false _ (c .if1 .left))) ∙ s .inv .3,
     )
 

@@ -2,11 +2,10 @@
 use Rattle.words.specs.Sound.{zeros}
 use Rattle.words.specs.Tested.{rowKept, rowsTested}
 use Rattle.words.specs.Contents.{standings}
-use Rattle.words.specs.Places.{word, rowCountAt, rowsAt, counterAt}
+use Rattle.words.specs.Places.{rowsAt, counterAt}
 use Rattle.laws.specs.Tests.{every}
 use mathlib.Core.Bool.{true, false, and-false}
 use borrow.Author.Tests.{le-leb, lt-leb, not-true, not-false}
-use native.Mathlib.Omega.{arith}
 use mathlib.Core.Path.{_≡_, sym, ap, _∙_}
 use Prim.Native.Nat.{_+_, _*_, _-_}
 use borrow.Author.Needs.{needs}
@@ -49,7 +48,8 @@ returns-3 : tie.Need-returns-3
 unfolding rowsTested
 returns-3 c =
     let ws = c .before .before .before .before .before .before .before .before .args .ws .now in
-    let e : every (rowKept ws) (standings ws) ≡ true = sym (c .before .before .before .before .rows-kept .ensures) ∙ not-false _ (c .before .before .before .if2 .left) in
+    let e : every (rowKept ws) (standings ws) ≡ true = sym (c .before .before .before .before .rows-kept .ensures) ∙
+    not-false _ (c .before .before .before .if2 .left) in
     let n = c .before .wide .ensures .0 in
     c .are-zero .ensures ∙ ap (λ m. zeros ws (rowsAt + 6 * m) (counterAt - (rowsAt + 6 * m))) n ∙
     sym (simp (le-leb _ _ (c .before .before .before .before .before .if1 .left), e))

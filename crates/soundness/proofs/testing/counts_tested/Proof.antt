@@ -7,7 +7,7 @@ use mathlib.Core.Bool.{true, false, and-false}
 use borrow.Author.Tests.{le-leb, lt-leb, eq-eqb, ne-eqb}
 use native.Mathlib.Omega.{arith}
 use mathlib.Core.Path.{_≡_, sym, _∙_}
-use Prim.Native.Nat.{_+_, _-_}
+use Prim.Native.Nat.{_+_}
 use borrow.Author.Needs.{needs}
 use Rattle.soundness.proofs.testing.counts_tested.Statement.{statement}
 use Rattle.soundness.proofs.testing.counts_tested.Tie as tie
@@ -26,7 +26,8 @@ returns-2 : tie.Need-returns-2
 unfolding countsTested
 returns-2 c =
     let ws = c .before .before .before .before .before .args .ws .now in
-    let e : leb (lengthsBelow ws 64) 1024 ≡ false = lt-leb (lengthsBelow ws 64) 1024 (omega (arith, c .before .lengths-below .ensures .0)) in
+    let e : leb (lengthsBelow ws 64) 1024 ≡ false = lt-leb (lengthsBelow ws 64) 1024
+    (omega (arith, c .before .lengths-below .ensures .0)) in
     simp (e, and-false)
 
 shared-slice-read-wide : tie.Need-shared-slice-read-wide
@@ -52,9 +53,11 @@ unfolding countsTested
 returns-3 c =
     let ws = c .before .before .before .before .before .before .before .before .before .before .before .args .ws .now in
     let n = c .before .before .before .before .before .before .before .lengths-below .ensures .0 in
-    let a : leb (word ws counterAt) 4000000000 ≡ true = le-leb _ _ (c .before .before .before .before .before .before .before .before .if1 .left) in
+    let a : leb (word ws counterAt) 4000000000 ≡ true =
+    le-leb _ _ (c .before .before .before .before .before .before .before .before .if1 .left) in
     let b : leb (lengthsBelow ws 64) 1024 ≡ true = le-leb (lengthsBelow ws 64) 1024 (omega arith) in
-    leb-same (c .wide2 .result) (c .before .before .before .before .wide .result + c .before .before .before .before .before .before .before .lengths-below .result) (word ws acceptedAt) (word ws counterAt + (lengthsBelow ws 64 + 0)) (λ h. omega arith) (λ h. omega arith) ∙
+    leb-same (c .wide2 .result) (c .before .before .before .before .wide .result + c .before .before .before .before .before .before .before
+    .lengths-below .result) (word ws acceptedAt) (word ws counterAt + (lengthsBelow ws 64 + 0)) (λ h. omega arith) (λ h. omega arith) ∙
     sym (simp (a, b, eq-eqb _ _ (c .before .before .if3 .taken)))
 
 shared-slice-read-wide-3 : tie.Need-shared-slice-read-wide-3
@@ -71,9 +74,11 @@ unfolding countsTested
 returns-4 c =
     let ws = c .before .before .before .before .before .before .before .before .before .before .before .args .ws .now in
     let n = c .before .before .before .before .before .before .before .lengths-below .ensures .0 in
-    let a : leb (word ws counterAt) 4000000000 ≡ true = le-leb _ _ (c .before .before .before .before .before .before .before .before .if1 .left) in
+    let a : leb (word ws counterAt) 4000000000 ≡ true =
+    le-leb _ _ (c .before .before .before .before .before .before .before .before .if1 .left) in
     let b : leb (lengthsBelow ws 64) 1024 ≡ true = le-leb (lengthsBelow ws 64) 1024 (omega arith) in
-    leb-same (c .wide3 .result) (c .before .before .before .before .wide .result + c .before .before .before .before .before .before .before .lengths-below .result + 1) (word ws acceptedAt) (word ws counterAt + (lengthsBelow ws 64 + 1)) (λ h. omega arith) (λ h. omega arith) ∙
+    leb-same (c .wide3 .result) (c .before .before .before .before .wide .result + c .before .before .before .before .before .before .before
+    .lengths-below .result + 1) (word ws acceptedAt) (word ws counterAt + (lengthsBelow ws 64 + 1)) (λ h. omega arith) (λ h. omega arith) ∙
     sym (simp (a, b, ne-eqb _ _ (c .before .before .if3 .left)))
 
 pub counts-tested-spec : {M : Type 1} → statement M

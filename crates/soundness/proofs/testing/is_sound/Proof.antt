@@ -9,7 +9,6 @@ use lib.ListN.{length}
 use mathlib.Core.Bool.{true, false, _&&_, and-false}
 use borrow.Author.Tests.{leb-true, le-leb, lt-leb, not-true, not-false}
 use mathlib.Core.Path.{_≡_, sym, _∙_}
-use Prim.Native.Nat.{_-_}
 use borrow.Author.Needs.{needs}
 use Rattle.soundness.proofs.testing.is_sound.Statement.{statement}
 use Rattle.soundness.proofs.testing.is_sound.Tie as tie
@@ -53,7 +52,9 @@ returns-4 c =
 link-tested-requires : tie.Need-link-tested-requires
 link-tested-requires c κs =
     let ws = c .before .before .before .before .before .before .before .before .args .ws .now in
-    tables-tested ws (c .before .before .before .before .before .before .if1 .left) (sym (c .before .before .before .before .before .settings-tested .ensures) ∙ not-false _ (c .before .before .before .before .if2 .left)) (sym (c .before .before .before .rows-tested .ensures) ∙ not-false _ (c .before .before .if3 .left))
+    tables-tested ws (c .before .before .before .before .before .before .if1 .left)
+    (sym (c .before .before .before .before .before .settings-tested .ensures) ∙ not-false _ (c .before .before .before .before .if2 .left))
+    (sym (c .before .before .before .rows-tested .ensures) ∙ not-false _ (c .before .before .if3 .left))
 
 returns-5 : tie.Need-returns-5
 unfolding tested
@@ -68,18 +69,26 @@ queues-tested-requires c κs =
     let ws = c .before .before .before .before .before .before .before .before .before .before .args .ws .now in
     let t = sym (c .before .before .before .counts-tested .ensures) ∙ not-false _ (c .before .before .if4 .left) in
     let a = and-eq-true-iff (leb (word ws counterAt) 4000000000 && leb (lengthsBelow ws 64) 1024) _ .0 t in (
-      tables-tested ws (c .before .before .before .before .before .before .before .before .if1 .left) (sym (c .before .before .before .before .before .before .before .settings-tested .ensures) ∙ not-false _ (c .before .before .before .before .before .before .if2 .left)) (sym (c .before .before .before .before .before .rows-tested .ensures) ∙ not-false _ (c .before .before .before .before .if3 .left)),
-      leb-true (lengthsBelow ws 64) 1024 (and-eq-true-iff (leb (word ws counterAt) 4000000000) (leb (lengthsBelow ws 64) 1024) .0 (a .0) .1),
+      tables-tested ws (c .before .before .before .before .before .before .before .before .if1 .left)
+          (sym (c .before .before .before .before .before .before .before .settings-tested .ensures) ∙
+          not-false _ (c .before .before .before .before .before .before .if2 .left))
+          (sym (c .before .before .before .before .before .rows-tested .ensures) ∙ not-false _ (c .before .before .before .before .if3 .left)),
+      leb-true (lengthsBelow ws 64) 1024 (and-eq-true-iff (leb (word ws counterAt) 4000000000) (leb (lengthsBelow ws 64) 1024) .0
+          (a .0) .1),
     )
 
 returns-6 : tie.Need-returns-6
 unfolding tested
 returns-6 c =
     let ws = c .before .before .before .before .before .before .before .before .before .before .before .args .ws .now in
-    let l : leb boxWords (length ws) ≡ true = le-leb _ _ (c .before .before .before .before .before .before .before .before .before .if1 .left) in
-    let s : settingsTested ws ≡ true = sym (c .before .before .before .before .before .before .before .before .settings-tested .ensures) ∙ not-false _ (c .before .before .before .before .before .before .before .if2 .left) in
-    let r : rowsTested ws ≡ true = sym (c .before .before .before .before .before .before .rows-tested .ensures) ∙ not-false _ (c .before .before .before .before .before .if3 .left) in
-    let n : countsTested ws ≡ true = sym (c .before .before .before .before .counts-tested .ensures) ∙ not-false _ (c .before .before .before .if4 .left) in
+    let l : leb boxWords (length ws) ≡ true = le-leb _ _
+    (c .before .before .before .before .before .before .before .before .before .if1 .left) in
+    let s : settingsTested ws ≡ true = sym (c .before .before .before .before .before .before .before .before .settings-tested .ensures) ∙
+    not-false _ (c .before .before .before .before .before .before .before .if2 .left) in
+    let r : rowsTested ws ≡ true = sym (c .before .before .before .before .before .before .rows-tested .ensures) ∙
+    not-false _ (c .before .before .before .before .before .if3 .left) in
+    let n : countsTested ws ≡ true = sym (c .before .before .before .before .counts-tested .ensures) ∙
+    not-false _ (c .before .before .before .if4 .left) in
     let k : linkTested ws ≡ true = sym (c .before .before .link-tested .ensures) ∙ not-false _ (c .before .if5 .left) in
     c .queues-tested .ensures ∙ sym (sym (tested-sound ws) ∙ simp (l, s, r, n, k))
 

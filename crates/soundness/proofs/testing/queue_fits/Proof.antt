@@ -52,11 +52,15 @@ returns c =
     let place = s .args .place in
     let t = c .before .before .before .before .before .turns .ensures .0 in
     let n = c .before .before .before .wide .ensures .0 in
-    let e : (place + (64 - c .before .before .before .before .before .turns .result % 64)) % 64 ≡ tagOf (turnsAt ws) place = ap (λ t. (place + (64 - t % 64)) % 64) t in
-    let h = le-leb (tagOf (turnsAt ws) place) (largestFactor (settingsAt ws)) (omega (arith, e, c .before .if1 .taken, c .before .before .largest-factor .ensures .0)) in
+    let e : (place + (64 - c .before .before .before .before .before .turns .result % 64)) % 64 ≡ tagOf (turnsAt ws) place =
+    ap (λ t. (place + (64 - t % 64)) % 64) t in
+    let h = le-leb (tagOf (turnsAt ws) place) (largestFactor (settingsAt ws))
+    (omega (arith, e, c .before .if1 .taken, c .before .before .largest-factor .ensures .0)) in
     c .packets-fit .ensures ∙
-    ap (λ t. packetsFit (contents ws) (t + (place + (64 - t % 64)) % 64) 0 (series (packetAt ws) 4 (s .args .at) (c .before .before .before .wide .result))) t ∙
-    ap (λ a. packetsFit (contents ws) (turnsAt ws + tagOf (turnsAt ws) place) 0 (series (packetAt ws) 4 a (c .before .before .before .wide .result))) (s .pre .2) ∙
+    ap (λ t. packetsFit (contents ws) (t + (place + (64 - t % 64)) % 64) 0
+    (series (packetAt ws) 4 (s .args .at) (c .before .before .before .wide .result))) t ∙
+    ap (λ a. packetsFit (contents ws) (turnsAt ws + tagOf (turnsAt ws) place) 0
+    (series (packetAt ws) 4 a (c .before .before .before .wide .result))) (s .pre .2) ∙
     ap (λ m. packetsFit (contents ws) (turnsAt ws + tagOf (turnsAt ws) place) 0 (series (packetAt ws) 4 (startOf ws place) m)) n ∙
     sym (simp h)
 
@@ -68,8 +72,10 @@ returns-2 c =
     let place = s .args .place in
     let t = c .before .before .before .before .turns .ensures .0 in
     let n = c .before .before .wide .ensures .0 in
-    let e : (place + (64 - c .before .before .before .before .turns .result % 64)) % 64 ≡ tagOf (turnsAt ws) place = ap (λ t. (place + (64 - t % 64)) % 64) t in
-    let h = lt-leb (tagOf (turnsAt ws) place) (largestFactor (settingsAt ws)) (omega (arith, e, c .if1 .left, c .before .largest-factor .ensures .0)) in
+    let e : (place + (64 - c .before .before .before .before .turns .result % 64)) % 64 ≡ tagOf (turnsAt ws) place =
+    ap (λ t. (place + (64 - t % 64)) % 64) t in
+    let h = lt-leb (tagOf (turnsAt ws) place) (largestFactor (settingsAt ws))
+    (omega (arith, e, c .if1 .left, c .before .largest-factor .ensures .0)) in
     ap (λ m. eqb m 0) (n ∙ sym (length-queue ws place)) ∙ sym (simp h)
 
 pub queue-fits-spec : {M : Type 1} → statement M

@@ -17,7 +17,8 @@ use Rattle.soundness.proofs.testing.queues_tested.Statement.{statement}
 use Rattle.soundness.proofs.testing.queues_tested.Tie as tie
 
 abbrev Inv-loop : tie.InvT-loop
-Inv-loop ws at₀ place₀ at place = (place ≤ 64) × (at ≡ startOf ws place) × (everyBelow (λ p. queueFits ws (tagOf (turnsAt ws) p) (queueAt ws p)) place ≡ true)
+Inv-loop ws at₀ place₀ at place = (place ≤ 64) × (at ≡ startOf ws place)
+    × (everyBelow (λ p. queueFits ws (tagOf (turnsAt ws) p) (queueAt ws p)) place ≡ true)
 
 abbrev μ-loop : tie.MeasureT-loop
 μ-loop ws at₀ place₀ at place = 64 - place
@@ -38,7 +39,8 @@ returns : tie.Need-returns Inv-loop μ-loop
 unfolding queuesTested
 returns c =
     let ws = c .before .before .before .before .before .args .ws .now in
-    sym (everyBelow-stop (λ p. queueFits ws (tagOf (turnsAt ws) p) (queueAt ws p)) 64 (c .before .before .before .loop .place) (c .before .before .loop-test .taken)
+    sym (everyBelow-stop (λ p. queueFits ws (tagOf (turnsAt ws) p) (queueAt ws p)) 64 (c .before .before .before .loop .place)
+    (c .before .before .loop-test .taken)
     (sym (c .before .queue-fits .ensures) ∙ not-true _ (c .if1 .taken)))
 
 add-wide : tie.Need-add-wide Inv-loop μ-loop
@@ -56,14 +58,16 @@ wide-requires c κs = search needs
 mul-at : tie.Need-mul-at Inv-loop μ-loop
 mul-at c =
     let s = c .before .before .before .before .before .before .before in
-    let l = lengths-most (s .args .ws .now) (c .before .before .before .before .before .loop .place) 64 (c .before .before .before .before .loop-test .taken) in
+    let l = lengths-most (s .args .ws .now) (c .before .before .before .before .before .loop .place) 64
+    (c .before .before .before .before .loop-test .taken) in
     omega (arith, s .pre .1, c .wide .ensures .0)
 
 add-at : tie.Need-add-at Inv-loop μ-loop
 unfolding startOf
 add-at c =
     let s = c .before .before .before .before .before .before .before in
-    let l = lengths-most (s .args .ws .now) (c .before .before .before .before .before .loop .place) 64 (c .before .before .before .before .loop-test .taken) in
+    let l = lengths-most (s .args .ws .now) (c .before .before .before .before .before .loop .place) 64
+    (c .before .before .before .before .loop-test .taken) in
     omega (arith, s .pre .1, c .wide .ensures .0, c .before .before .before .before .before .loop .inv .1)
 
 add-place : tie.Need-add-place Inv-loop μ-loop
@@ -79,8 +83,14 @@ loop-again c =
     let p = c .before .before .before .before .before .loop .place in
     let test : ℕ → Bool = λ p. queueFits ws (tagOf (turnsAt ws) p) (queueAt ws p) in
     let e : everyBelow test (suc p) ≡ true =
-    and-eq-true-iff (everyBelow test p) (test p) .1 (c .before .before .before .before .before .loop .inv .2, sym (c .before .before .before .queue-fits .ensures) ∙ not-false _ (c .before .before .if1 .left)) in
-    (omega arith, rw (add-one p) (omega (arith, c .wide .ensures .0, c .before .before .before .before .before .loop .inv .1)), rw (add-one p) e)
+    and-eq-true-iff (everyBelow test p) (test p) .1 (
+      c .before .before .before .before .before .loop .inv .2,
+      sym (c .before .before .before .queue-fits .ensures) ∙ not-false _ (c .before .before .if1 .left),
+    ) in (
+      omega arith,
+      rw (add-one p) (omega (arith, c .wide .ensures .0, c .before .before .before .before .before .loop .inv .1)),
+      rw (add-one p) e,
+    )
 
 returns-2 : tie.Need-returns-2 Inv-loop μ-loop
 unfolding queuesTested

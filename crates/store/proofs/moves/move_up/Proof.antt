@@ -45,7 +45,8 @@ same-length : tie.Need-same-length Inv-loop μ-loop
 same-length c = c .before .loop .inv .2 .same-length
 
 returns : tie.Need-returns Inv-loop μ-loop
-returns c = up-end (c .before .before .args .ws .now) (c .before .loop .ws) (c .before .before .args .from) (c .before .before .args .to) (c .before .loop .i) (omega arith) (c .before .loop .inv .2)
+returns c = up-end (c .before .before .args .ws .now) (c .before .loop .ws) (c .before .before .args .from) (c .before .before .args .to)
+    (c .before .loop .i) (omega arith) (c .before .loop .inv .2)
 
 pub move-up-spec : {M : Type 1} → statement M
 move-up-spec =

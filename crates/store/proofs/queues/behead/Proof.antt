@@ -64,7 +64,8 @@ sub-ws c =
     let a = c .before .before .before .before .before .lengths-below2 .ensures .0 in
     let e = c .before .before .before .before .before .before .before .lengths-below .ensures .0 in
     let l = lengths-most ws P 64 small in
-    let w = ap (λ m. word ws (lengthsAt + m)) (c .before .before .before .before .before .before .before .before .before .place-of .ensures .0) in
+    let w = ap (λ m. word ws (lengthsAt + m)) (c .before .before .before .before .before .before .before .before .before .place-of .ensures
+    .0) in
     let b = c .before .before .before .move-down .ensures .below (lengthsAt + P) (omega arith) in
     omega (arith, s .pre .2)
 
@@ -98,8 +99,12 @@ returns c =
     let b = c .before .before .before .move-down .ensures .below (lengthsAt + P) (omega arith) in
     let v : word down (lengthsAt + placeOf (turnsAt ws) (g .tag)) - 1 + 1 ≡ word down (lengthsAt + placeOf (turnsAt ws) (g .tag)) =
     (let d = ap (λ m. word down (lengthsAt + m)) q in omega (arith, s .pre .2)) in
-    rw q (behead-become ws down (g .tag) k (s .pre .1) (s .pre .2) (packetsAt + 4 * c .before .before .before .before .before .lengths-below2 .result) (packetsAt + 4 * c .before .before .before .before .before .before .before .lengths-below .result)
-    (word down (lengthsAt + placeOf (turnsAt ws) (g .tag)) - 1) (ap (λ m. packetsAt + 4 * m) a ∙ ap (λ m. packetsAt + 4 * lengthsBelow ws m) q) (ap (λ m. packetsAt + 4 * m) e) (c .before .before .before .move-down .ensures) v)
+    rw q (behead-become ws down (g .tag) k (s .pre .1) (s .pre .2)
+    (packetsAt + 4 * c .before .before .before .before .before .lengths-below2 .result)
+    (packetsAt + 4 * c .before .before .before .before .before .before .before .lengths-below .result)
+    (word down (lengthsAt + placeOf (turnsAt ws) (g .tag)) - 1)
+    (ap (λ m. packetsAt + 4 * m) a ∙ ap (λ m. packetsAt + 4 * lengthsBelow ws m) q) (ap (λ m. packetsAt + 4 * m) e)
+    (c .before .before .before .move-down .ensures) v)
 
 pub behead-spec : {M : Type 1} → statement M
 behead-spec =

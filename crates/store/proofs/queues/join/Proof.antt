@@ -7,7 +7,7 @@ use Rattle.words.specs.Places.{word, placeOf, lengthsBelow, lengthsAt, packetsA
 use Rattle.words.specs.Contents.{contents, turnsAt}
 use native.Mathlib.Omega.{arith}
 use mathlib.Core.Path.{_≡_, refl, ap, _∙_}
-use Prim.Native.Nat.{ℕ, suc, _+_, _*_, _-_}
+use Prim.Native.Nat.{ℕ, suc, _+_, _*_}
 use borrow.Author.Needs.{needs}
 use Rattle.store.proofs.queues.join.Statement.{statement}
 use Rattle.store.proofs.queues.join.Tie as tie
@@ -77,16 +77,19 @@ slice-read-ws c = search needs
 
 add-ws-2 : tie.Need-add-ws-2
 add-ws-2 c =
-    let s = c .before .before .before .before .before .before .before .before .before .before .before .before .before .before .before .before in
+    let s = c .before .before .before .before .before .before .before .before .before .before .before .before .before .before .before
+    .before in
     let ws = s .args .ws .now in
     let k = s .pre .0 in
     let P = c .before .before .before .before .before .before .before .before .before .before .before .before .before .place-of .result in
-    let small = c .before .before .before .before .before .before .before .before .before .before .before .before .before .place-of .ensures .1 in
+    let small = c .before .before .before .before .before .before .before .before .before .before .before .before .before .place-of .ensures
+    .1 in
     let a = c .before .before .before .before .before .before .before .before .before .lengths-below2 .ensures .0 in
     let e = c .before .before .before .before .before .before .before .before .before .before .before .lengths-below .ensures .0 in
     let l = lengths-most ws P 64 small in
     let n = ap (lengthsBelow ws) (one-more P) ∙ lengths-next ws P in
-    let b = c .before .before .before .write-packet .ensures .below (lengthsAt + P) (omega arith) ∙ c .before .before .before .before .before .before .before .move-up .ensures .below (lengthsAt + P) (omega arith) in
+    let b = c .before .before .before .write-packet .ensures .below (lengthsAt + P) (omega arith) ∙
+    c .before .before .before .before .before .before .before .move-up .ensures .below (lengthsAt + P) (omega arith) in
     record { fits = omega (arith, s .pre .2) }
 
 add-ws-3 : tie.Need-add-ws-3
@@ -99,25 +102,32 @@ slice-write-ws : tie.Need-slice-write-ws
 slice-write-ws c = search needs
 
 same-length : tie.Need-same-length
-same-length c = simp length-set (c .before .before .before .write-packet .kept .0 ∙ c .before .before .before .before .before .before .before .move-up .kept .0)
+same-length c = simp length-set (c .before .before .before .write-packet .kept .0 ∙
+    c .before .before .before .before .before .before .before .move-up .kept .0)
 
 returns : tie.Need-returns
 unfolding contents
 returns c =
-    let s = c .before .before .before .before .before .before .before .before .before .before .before .before .before .before .before .before in
+    let s = c .before .before .before .before .before .before .before .before .before .before .before .before .before .before .before
+    .before in
     let ws = s .args .ws .now in
     let k = s .pre .0 in
     let P = c .before .before .before .before .before .before .before .before .before .before .before .before .before .place-of .result in
-    let small = c .before .before .before .before .before .before .before .before .before .before .before .before .before .place-of .ensures .1 in
+    let small = c .before .before .before .before .before .before .before .before .before .before .before .before .before .place-of .ensures
+    .1 in
     let a = c .before .before .before .before .before .before .before .before .before .lengths-below2 .ensures .0 in
     let e = c .before .before .before .before .before .before .before .before .before .before .before .lengths-below .ensures .0 in
     let l = lengths-most ws P 64 small in
     let g = s .args in
-    let q = c .before .before .before .before .before .before .before .before .before .before .before .before .before .place-of .ensures .0 in
+    let q = c .before .before .before .before .before .before .before .before .before .before .before .before .before .place-of .ensures .0
+    in
     let placed = c .before .before .before .write-packet .last .0 in
     rw q (joined-become ws (c .before .before .before .before .before .before .before .move-up .last .0) placed (g .tag) (g .p)
-    k (s .pre .1) (s .pre .2) (packetsAt + 4 * c .before .before .before .before .before .before .before .before .before .lengths-below2 .result) (packetsAt + 4 * c .before .before .before .before .before .before .before .before .before .before .before .lengths-below .result) (word placed (lengthsAt + placeOf (turnsAt ws) (g .tag)) + 1)
-    (ap (λ m. packetsAt + 4 * m) a ∙ ap (λ m. packetsAt + 4 * lengthsBelow ws (m + 1)) q) (ap (λ m. packetsAt + 4 * m) e) (c .before .before .before .before .before .before .before .move-up .ensures) (c .before .before .before .write-packet .ensures) refl)
+    k (s .pre .1) (s .pre .2) (packetsAt + 4 * c .before .before .before .before .before .before .before .before .before .lengths-below2
+    .result) (packetsAt + 4 * c .before .before .before .before .before .before .before .before .before .before .before .lengths-below
+    .result) (word placed (lengthsAt + placeOf (turnsAt ws) (g .tag)) + 1)
+    (ap (λ m. packetsAt + 4 * m) a ∙ ap (λ m. packetsAt + 4 * lengthsBelow ws (m + 1)) q) (ap (λ m. packetsAt + 4 * m) e)
+    (c .before .before .before .before .before .before .before .move-up .ensures) (c .before .before .before .write-packet .ensures) refl)
 
 pub join-spec : {M : Type 1} → statement M
 join-spec =

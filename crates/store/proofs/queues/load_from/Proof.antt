@@ -1,5 +1,4 @@
 -- `store::queues::load_from` meets its contract.
-use Prim.Native.Nat.{_+_, _*_}
 use mathlib.Core.Path.{ap, _∙_}
 use native.Mathlib.Omega.{arith}
 use Rattle.words.specs.Contents.{contents, packetAt}
@@ -72,7 +71,8 @@ returns c =
     let head = c .before .before .before .before .before .before .before .before .read-packet in
     let cut = c .before .before .before .before .before .before .behead in
     let a = head-at ws (s .args .tag) (place .result) (below .result) (place .ensures .0) (below .ensures .0) in
-    loaded-become ws (cut .last .0) (c .before .before .write-link .last .0) (s .args .tag) (head .result) (s .pre .0) (s .pre .1) (s .pre .2)
+    loaded-become ws (cut .last .0) (c .before .before .write-link .last .0) (s .args .tag) (head .result) (s .pre .0) (s .pre .1)
+    (s .pre .2)
     (s .pre .3) (head .ensures ∙ ap (packetAt ws) a) (cut .ensures) (c .before .before .write-link .ensures)
 
 pub load-from-spec : {M : Type 1} → statement M

@@ -16,7 +16,8 @@ use Rattle.store.proofs.queues.lowest_tag.Statement.{statement}
 use Rattle.store.proofs.queues.lowest_tag.Tie as tie
 
 abbrev Inv-loop : tie.InvT-loop
-Inv-loop ws count tag₀ tag = (tag ≤ count) × (count ≡ suc (largestFactor (settingsAt ws))) × (tag + lowestTag (series (λ k. queueAt ws (placeOf (turnsAt ws) k)) 1 tag (count - tag)) ≡ lowestTag (queuesAt ws))
+Inv-loop ws count tag₀ tag = (tag ≤ count) × (count ≡ suc (largestFactor (settingsAt ws)))
+    × (tag + lowestTag (series (λ k. queueAt ws (placeOf (turnsAt ws) k)) 1 tag (count - tag)) ≡ lowestTag (queuesAt ws))
 
 abbrev μ-loop : tie.MeasureT-loop
 μ-loop ws count tag₀ tag = count - tag

@@ -4,7 +4,7 @@ use Rattle.words.proofs.Rotation.{place-below}
 use Rattle.words.specs.Places.{placeOf}
 use native.Mathlib.Omega.{arith}
 use mathlib.Core.Path.{ap}
-use Prim.Native.Nat.{_+_, _-_, _%_}
+use Prim.Native.Nat.{_+_, _%_}
 use borrow.Author.Needs.{needs}
 use Rattle.store.proofs.queues.place_of.Statement.{statement}
 use Rattle.store.proofs.queues.place_of.Tie as tie

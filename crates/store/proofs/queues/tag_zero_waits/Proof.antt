@@ -6,7 +6,6 @@ use Rattle.store.proofs.QueueLaws.{zero-waits-taken, zero-waits}
 use Rattle.store.proofs.Loading.{link-free, link-busy}
 use Rattle.words.specs.Contents.{contents}
 use mathlib.Core.Path.{sym, ap, _∙_}
-use Prim.Native.Nat.{_-_}
 use borrow.Author.Needs.{needs}
 use Rattle.store.proofs.queues.tag_zero_waits.Statement.{statement}
 use Rattle.store.proofs.queues.tag_zero_waits.Tie as tie

@@ -4,7 +4,7 @@ use Rattle.words.specs.Places.{word, lengthsAt}
 use Rattle.words.specs.Contents.{contents}
 use native.Mathlib.Omega.{arith}
 use mathlib.Core.Path.{sym, ap, _∙_}
-use Prim.Native.Nat.{_+_, _-_}
+use Prim.Native.Nat.{_+_}
 use borrow.Author.Needs.{needs}
 use Rattle.store.proofs.queues.waiting_at.Statement.{statement}
 use Rattle.store.proofs.queues.waiting_at.Tie as tie
@@ -30,7 +30,8 @@ unfolding contents
 returns c =
     let s = c .before .before .before .before in
     let ws = s .args .ws .now in
-    c .wide .ensures .0 ∙ ap (λ p. word ws (lengthsAt + p)) (c .before .before .place-of .ensures .0) ∙ sym (waiting-length ws (s .args .tag) (s .pre .1))
+    c .wide .ensures .0 ∙ ap (λ p. word ws (lengthsAt + p)) (c .before .before .place-of .ensures .0) ∙
+    sym (waiting-length ws (s .args .tag) (s .pre .1))
 
 pub waiting-at-spec : {M : Type 1} → statement M
 waiting-at-spec =

@@ -3,7 +3,7 @@ use native.Mathlib.Numerals.{add-one}
 use Rattle.tables.proofs.SmallChanges.{accepted-become}
 use Rattle.words.specs.Places.{word, acceptedAt}
 use Rattle.words.specs.Contents.{contents}
-use Prim.Native.Nat.{_+_, _-_}
+use Prim.Native.Nat.{_+_}
 use borrow.Author.Needs.{needs}
 use Rattle.tables.proofs.counter.count_accepted.Statement.{statement}
 use Rattle.tables.proofs.counter.count_accepted.Tie as tie
@@ -22,7 +22,8 @@ same-length c = search needs
 
 returns : tie.Need-returns
 unfolding contents
-returns c = let ws = c .before .args .ws .now in rw (← (add-one (word ws acceptedAt))) (accepted-become ws (word ws acceptedAt + 1) (c .before .pre .0))
+returns c = let ws = c .before .args .ws .now in rw (← (add-one (word ws acceptedAt)))
+    (accepted-become ws (word ws acceptedAt + 1) (c .before .pre .0))
 
 pub count-accepted-spec : {M : Type 1} → statement M
 count-accepted-spec = tie.close (tie.spec slice-read-ws add-ws slice-write-ws same-length returns)

@@ -2,7 +2,7 @@
 use native.Mathlib.Numerals.{add-one}
 use Rattle.tables.proofs.SmallChanges.{raise-become}
 use Rattle.words.specs.Places.{word, counterAt}
-use Prim.Native.Nat.{_+_, _-_}
+use Prim.Native.Nat.{_+_}
 use borrow.Author.Needs.{needs}
 use Rattle.tables.proofs.counter.raise_counter.Statement.{statement}
 use Rattle.tables.proofs.counter.raise_counter.Tie as tie
@@ -20,7 +20,8 @@ same-length : tie.Need-same-length
 same-length c = search needs
 
 returns : tie.Need-returns
-returns c = let ws = c .before .args .ws .now in raise-become ws (word ws counterAt + 1) (c .before .pre .0) (add-one (word ws counterAt)) (c .before .pre .2)
+returns c = let ws = c .before .args .ws .now in raise-become ws (word ws counterAt + 1) (c .before .pre .0) (add-one (word ws counterAt))
+    (c .before .pre .2)
 
 pub raise-counter-spec : {M : Type 1} → statement M
 raise-counter-spec = tie.close (tie.spec slice-read-ws add-ws slice-write-ws same-length returns)

@@ -3,7 +3,6 @@ use Rattle.tables.proofs.LinkWritten.{link-written}
 use lib.ListN.{length-set}
 use Rattle.tables.proofs.SmallChanges.{link-become}
 use native.Mathlib.Omega.{arith}
-use Prim.Native.Nat.{_-_}
 use borrow.Author.Needs.{needs}
 use Rattle.tables.proofs.link.write_link.Statement.{statement}
 use Rattle.tables.proofs.link.write_link.Tie as tie

@@ -45,7 +45,8 @@ same-length : tie.Need-same-length Inv-loop μ-loop
 same-length c = c .before .loop .inv .1
 
 returns : tie.Need-returns Inv-loop μ-loop
-returns c = let e : c .before .loop .i ≡ c .before .before .args .n = omega arith in c .before .loop .inv .2 ∙ ap (λ i. cleared i (c .before .before .args .ws .now)) e
+returns c = let e : c .before .loop .i ≡ c .before .before .args .n = omega arith in
+    c .before .loop .inv .2 ∙ ap (λ i. cleared i (c .before .before .args .ws .now)) e
 
 pub clear-spec : {M : Type 1} → statement M
 clear-spec =

@@ -11,7 +11,6 @@ use mathlib.Core.Bool.{true, false}
 use borrow.Author.Tests.{lt-ltb, le-ltb, not-true, not-false}
 use native.Mathlib.Omega.{arith}
 use mathlib.Core.Path.{_≡_, sym, ap, _∙_}
-use Prim.Native.Nat.{_-_}
 use borrow.Author.Needs.{needs}
 use Rattle.tables.proofs.opening.open.Statement.{statement}
 use Rattle.tables.proofs.opening.open.Tie as tie
@@ -23,14 +22,16 @@ returns : tie.Need-returns
 unfolding opened openingAnswer afterOpening
 returns c =
     let a = c .before .before .before .before .args in
-    let e : settingsAllowed (asked (a .d) (a .m) (a .factors .now)) ≡ false = sym (c .before .settings-allowed .ensures) ∙ not-true _ (c .if1 .taken) in
+    let e : settingsAllowed (asked (a .d) (a .m) (a .factors .now)) ≡ false = sym (c .before .settings-allowed .ensures) ∙
+    not-true _ (c .if1 .taken) in
     simp e
 
 returns-2 : tie.Need-returns-2
 unfolding opened openingAnswer afterOpening
 returns-2 c =
     let a = c .before .before .before .before .before .args in
-    let e : settingsAllowed (asked (a .d) (a .m) (a .factors .now)) ≡ true = sym (c .before .before .settings-allowed .ensures) ∙ not-false _ (c .before .if1 .left) in
+    let e : settingsAllowed (asked (a .d) (a .m) (a .factors .now)) ≡ true = sym (c .before .before .settings-allowed .ensures) ∙
+    not-false _ (c .before .if1 .left) in
     simp (e, lt-ltb _ _ (c .if2 .taken))
 
 clear-requires : tie.Need-clear-requires
@@ -46,7 +47,9 @@ cast-ws : tie.Need-cast-ws
 unfolding classCount
 cast-ws c =
     let a = c .before .before .before .before .before .before .before .before .before .args in
-    let e : settingsAllowed (asked (a .d) (a .m) (a .factors .now)) ≡ true = sym (c .before .before .before .before .before .before .settings-allowed .ensures) ∙ not-false _ (c .before .before .before .before .before .if1 .left) in
+    let e : settingsAllowed (asked (a .d) (a .m) (a .factors .now)) ≡ true =
+    sym (c .before .before .before .before .before .before .settings-allowed .ensures) ∙
+    not-false _ (c .before .before .before .before .before .if1 .left) in
     record { fits = omega (arith, settings-facts (asked (a .d) (a .m) (a .factors .now)) e .classes-most) }
 
 slice-write-ws-3 : tie.Need-slice-write-ws-3
@@ -56,20 +59,30 @@ write-factors-requires : tie.Need-write-factors-requires
 unfolding classCount
 write-factors-requires c κs =
     let a = c .before .before .before .before .before .before .before .before .before .before .args in
-    let e : settingsAllowed (asked (a .d) (a .m) (a .factors .now)) ≡ true = sym (c .before .before .before .before .before .before .before .settings-allowed .ensures) ∙ not-false _ (c .before .before .before .before .before .before .if1 .left) in
-    simp length-set (omega (arith, c .before .before .before .clear .kept .0, c .before .before .before .before .before .if2 .left, settings-facts (asked (a .d) (a .m) (a .factors .now)) e .classes-most))
+    let e : settingsAllowed (asked (a .d) (a .m) (a .factors .now)) ≡ true =
+    sym (c .before .before .before .before .before .before .before .settings-allowed .ensures) ∙
+    not-false _ (c .before .before .before .before .before .before .if1 .left) in
+    simp length-set (omega (
+      arith,
+      c .before .before .before .clear .kept .0,
+      c .before .before .before .before .before .if2 .left,
+      settings-facts (asked (a .d) (a .m) (a .factors .now)) e .classes-most,
+    ))
 
 same-length : tie.Need-same-length
-same-length c = simp length-set at (c .before .before .write-factors .kept .0) ∙ c .before .before .before .before .before .before .clear .kept .0
+same-length c = simp length-set at (c .before .before .write-factors .kept .0) ∙
+    c .before .before .before .before .before .before .clear .kept .0
 
 returns-3 : tie.Need-returns-3
 unfolding opened openingAnswer afterOpening classCount
 returns-3 c =
     let a = c .before .before .before .before .before .before .before .before .before .before .before .before .before .args in
     let s = asked (a .d) (a .m) (a .factors .now) in
-    let e : settingsAllowed s ≡ true = sym (c .before .before .before .before .before .before .before .before .before .before .settings-allowed .ensures) ∙ not-false _ (c .before .before .before .before .before .before .before .before .before .if1 .left) in
+    let e : settingsAllowed s ≡ true = sym (c .before .before .before .before .before .before .before .before .before .before
+    .settings-allowed .ensures) ∙ not-false _ (c .before .before .before .before .before .before .before .before .before .if1 .left) in
     let w = c .before .before .write-factors .ensures ∙
-    opening-writes (a .d) (a .m) (a .factors .now) (a .ws .now) (c .before .before .before .before .before .before .clear .last .0) (settings-facts s e .classes-most) (c .before .before .before .before .before .before .clear .ensures) in
+    opening-writes (a .d) (a .m) (a .factors .now) (a .ws .now) (c .before .before .before .before .before .before .clear .last .0)
+    (settings-facts s e .classes-most) (c .before .before .before .before .before .before .clear .ensures) in
     simp (e, le-ltb _ _ (c .before .before .before .before .before .before .before .before .if2 .left)) (ap (λ l. (Opened.Done, l)) w)
 
 pub open-spec : {M : Type 1} → statement M

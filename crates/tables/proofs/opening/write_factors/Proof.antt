@@ -48,7 +48,8 @@ loop-again c =
     let x = getD (a .factors .now) (s .i) 0 in (
       omega arith,
       length-set (s .ws) (factorsAt + s .i) x ∙ s .inv .1,
-      rw (add-one (s .i)) (ap (λ l. set l (factorsAt + s .i) x) (s .inv .2) ∙ paste-suc (a .ws .now) factorsAt (a .factors .now) (s .i) 0 (omega arith) (c .before .loop-test .taken)),
+      rw (add-one (s .i)) (ap (λ l. set l (factorsAt + s .i) x) (s .inv .2) ∙
+          paste-suc (a .ws .now) factorsAt (a .factors .now) (s .i) 0 (omega arith) (c .before .loop-test .taken)),
     )
 
 same-length : tie.Need-same-length Inv-loop μ-loop

@@ -3,7 +3,7 @@ use Rattle.words.specs.Places.{word, rowCountAt, rowsAt}
 use native.Mathlib.Numerals.{add-one}
 use Rattle.tables.proofs.RowChanges.{append-become}
 use native.Mathlib.Omega.{arith}
-use Prim.Native.Nat.{_+_, _*_, _-_}
+use Prim.Native.Nat.{_+_, _*_}
 use borrow.Author.Needs.{needs}
 use Rattle.tables.proofs.rows.append_row.Statement.{statement}
 use Rattle.tables.proofs.rows.append_row.Tie as tie
@@ -36,7 +36,9 @@ returns : tie.Need-returns
 returns c =
     let s = c .before .before .before .before .before .before .before in
     let ws = s .args .ws .now in
-    append-become ws (c .before .before .write-row .last .0) _ (rowsAt + 6 * c .before .before .before .wide .result) (word ws rowCountAt + 1) (s .pre .0) (s .pre .1) (omega (arith, c .before .before .before .wide .ensures .0)) (add-one (word ws rowCountAt))
+    append-become ws (c .before .before .write-row .last .0) _ (rowsAt + 6 * c .before .before .before .wide .result)
+    (word ws rowCountAt + 1) (s .pre .0) (s .pre .1) (omega (arith, c .before .before .before .wide .ensures .0))
+    (add-one (word ws rowCountAt))
     (c .before .before .write-row .ensures)
 
 pub append-row-spec : {M : Type 1} → statement M

@@ -2,7 +2,6 @@
 use Rattle.tables.proofs.RowChanges.{allowance-become}
 use lib.ListN.{length-set}
 use native.Mathlib.Omega.{arith}
-use Prim.Native.Nat.{_-_}
 use borrow.Author.Needs.{needs}
 use Rattle.tables.proofs.rows.write_allowance.Statement.{statement}
 use Rattle.tables.proofs.rows.write_allowance.Tie as tie
@@ -32,7 +31,13 @@ mul-ws-2 : tie.Need-mul-ws-2
 mul-ws-2 c = search needs
 
 slice-write-ws-2 : tie.Need-slice-write-ws-2
-slice-write-ws-2 c = simp length-set (omega (arith, c .before .before .pre .0 .enough, c .before .before .pre .0 .rows, c .wide .ensures .0, c .before .before .pre .2))
+slice-write-ws-2 c = simp length-set (omega (
+  arith,
+  c .before .before .pre .0 .enough,
+  c .before .before .pre .0 .rows,
+  c .wide .ensures .0,
+  c .before .before .pre .2,
+))
 
 same-length : tie.Need-same-length
 same-length c = search needs
@@ -40,7 +45,8 @@ same-length c = search needs
 returns : tie.Need-returns
 returns c =
     let s = c .before .before in
-    rw (c .wide .ensures .0) (allowance-become (s .args .ws .now) (s .args .n) (s .args .next) (s .args .credit) (s .pre .0) (s .pre .1) (s .pre .2))
+    rw (c .wide .ensures .0) (allowance-become (s .args .ws .now) (s .args .n) (s .args .next) (s .args .credit) (s .pre .0) (s .pre .1)
+    (s .pre .2))
 
 pub write-allowance-spec : {M : Type 1} → statement M
 write-allowance-spec =

@@ -2,7 +2,6 @@
 use lib.ListN.{length-set}
 use Rattle.tables.proofs.RowChanges.{row-stored}
 use native.Mathlib.Omega.{arith}
-use Prim.Native.Nat.{_-_}
 use borrow.Author.Needs.{needs}
 use Rattle.tables.proofs.rows.write_row.Statement.{statement}
 use Rattle.tables.proofs.rows.write_row.Tie as tie

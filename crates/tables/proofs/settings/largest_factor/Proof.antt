@@ -28,8 +28,10 @@ wide-requires-2 c κs = search needs
 returns : tie.Need-returns
 returns c =
     let s = c .before .before .before .before .before in
-    let ws = s .args .ws .now in
-    (c .wide2 .ensures .0 ∙ ap (λ n. word ws (factorsAt - 1 + n)) (c .before .before .wide .ensures .0) ∙ sym (largest-at ws (s .pre .1)), c .wide2 .ensures .1)
+    let ws = s .args .ws .now in (
+      c .wide2 .ensures .0 ∙ ap (λ n. word ws (factorsAt - 1 + n)) (c .before .before .wide .ensures .0) ∙ sym (largest-at ws (s .pre .1)),
+      c .wide2 .ensures .1,
+    )
 
 pub largest-factor-spec : {M : Type 1} → statement M
 largest-factor-spec =

@@ -68,18 +68,22 @@ returns-6 c =
 mul-result : tie.Need-mul-result
 mul-result c =
     let a = c .before .before .before .before .before .before .before .before .before .before .before .args in
-    let f = within-facts 1 (a .d) 256 (sym (c .before .before .before .before .before .before .before .before .before .is-within .ensures) ∙ not-false _ (c .before .before .before .before .before .before .before .before .if1 .left)) in
+    let f = within-facts 1 (a .d) 256 (sym (c .before .before .before .before .before .before .before .before .before .is-within .ensures) ∙
+    not-false _ (c .before .before .before .before .before .before .before .before .if1 .left)) in
     record { fits = omega (arith, mul-le-mul-right (a .d) (c .if6 .left)) }
 
 returns-7 : tie.Need-returns-7
 returns-7 c =
     let a = c .before .before .before .before .before .before .before .before .before .before .before .args in
     let fs = a .factors .now in
-    let e1 : within 1 (a .d) 256 ≡ true = sym (c .before .before .before .before .before .before .before .before .before .is-within .ensures) ∙ not-false _ (c .before .before .before .before .before .before .before .before .if1 .left) in
-    let e2 : within 1 (a .m) 4096 ≡ true = sym (c .before .before .before .before .before .before .before .is-within2 .ensures) ∙ not-false _ (c .before .before .before .before .before .before .if2 .left) in
+    let e1 : within 1 (a .d) 256 ≡ true = sym (c .before .before .before .before .before .before .before .before .before .is-within
+    .ensures) ∙ not-false _ (c .before .before .before .before .before .before .before .before .if1 .left) in
+    let e2 : within 1 (a .m) 4096 ≡ true = sym (c .before .before .before .before .before .before .before .is-within2 .ensures) ∙
+    not-false _ (c .before .before .before .before .before .before .if2 .left) in
     let e3 : leb 1 (length fs) ≡ true = le-leb _ _ (c .before .before .before .before .before .if3 .left) in
     let e4 : leb (length fs) 8 ≡ true = le-leb _ _ (c .before .before .before .before .if4 .left) in
-    let e5 : risingAbove 0 fs ≡ true = sym (c .before .before .before .factors-rise .ensures) ∙ not-false _ (c .before .before .if5 .left) in
+    let e5 : risingAbove 0 fs ≡ true = sym (c .before .before .before .factors-rise .ensures) ∙
+    not-false _ (c .before .before .if5 .left) in
     let e6 : leb (getD fs (length fs - 1) 0) 63 ≡ true = le-leb _ _ (c .if6 .left) in
     sym (settings-parts (a .d) (a .m) fs ∙ simp (e1, e2, e3, e4, e5, e6))
 

@@ -48,7 +48,8 @@ loop-again c =
     let i = s .loop .i in (
       omega arith,
       omega arith,
-      sym (every-next (λ w. eqb w 0) (λ j. word (a .ws .now) j) 1 i (a .to) i (c .before .before .loop-test .taken) (eq-eqb _ 0 (c .if1 .left))) ∙
+      sym (every-next (λ w. eqb w 0) (λ j. word (a .ws .now) j) 1 i (a .to) i (c .before .before .loop-test .taken)
+          (eq-eqb _ 0 (c .if1 .left))) ∙
           s .loop .inv .2,
     )
 

@@ -2,7 +2,6 @@
 use lib.ListN.{length-set}
 use Rattle.words.proofs.Storing.{packet-stored}
 use native.Mathlib.Omega.{arith}
-use Prim.Native.Nat.{_-_}
 use borrow.Author.Needs.{needs}
 use Rattle.words.proofs.packets.write_packet.Statement.{statement}
 use Rattle.words.proofs.packets.write_packet.Tie as tie
