@@ -151,8 +151,7 @@ loaded-become ws mid after tag p e t h f a b c =
     let Q = set qs tag (drop 1 (getD qs tag [])) in
     let q : withoutLowestHead qs ≡ Q = take-sets qs (omega arith) ∙ ap (λ n. set qs n (drop 1 (getD qs n []))) (sym t) in
     let u : 1 ≤ p .units = rw a (k .units) in
-    let head : lowestHead qs ≡ some p =
-    take-head qs noPacket (omega arith) .0 ∙ ap (λ n. some (getD (getD qs n []) 0 noPacket)) (sym t) ∙
+    let head : lowestHead qs ≡ some p = take-head qs noPacket (omega arith) .0 ∙ ap (λ n. some (getD (getD qs n []) 0 noPacket)) (sym t) ∙
     ap (λ l. some (getD l 0 noPacket)) (queue-tagged-at ws tag h) ∙ ap some (first-read ws P (k .waits) ∙ sym a) in
     let l : linkOf (p .units) p ≡ linkTaken (contents ws .link) qs = link-carries (p .units) p u ∙
     sym (taken-link (contents ws .link) qs p free-link head) in

@@ -139,8 +139,7 @@ row-stored ws at a b c d e f h =
     let p4 : word w6 (at + 4) ≡ e = o6 (at + 4) (λ q. omega arith) ∙ word-same w4 (at + 4) e (at + 4) (omega arith) refl in
     let p3 : word w6 (at + 3) ≡ d = o6 (at + 3) (λ q. omega arith) ∙ o5 (at + 3) (λ q. omega arith) ∙
     word-same w3 (at + 3) d (at + 3) (omega arith) refl in
-    let p2 : word w6 (at + 2) ≡ c =
-    o6 (at + 2) (λ q. omega arith) ∙ o5 (at + 2) (λ q. omega arith) ∙ o4 (at + 2) (λ q. omega arith) ∙
+    let p2 : word w6 (at + 2) ≡ c = o6 (at + 2) (λ q. omega arith) ∙ o5 (at + 2) (λ q. omega arith) ∙ o4 (at + 2) (λ q. omega arith) ∙
     word-same w2 (at + 2) c (at + 2) (omega arith) refl in
     let p1 : word w6 (at + 1) ≡ b =
     o6 (at + 1) (λ q. omega arith) ∙ o5 (at + 1) (λ q. omega arith) ∙ o4 (at + 1) (λ q. omega arith) ∙ o3 (at + 1) (λ q. omega arith) ∙

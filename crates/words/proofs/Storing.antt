@@ -30,8 +30,7 @@ packet-stored ws at s n u a h =
     let l2 : length w2 ≡ length ws = length-set w1 (at + 1) n ∙ l1 in
     let l3 : length w3 ≡ length ws = length-set w2 (at + 2) u ∙ l2 in
     let l4 : length w4 ≡ length ws = length-set w3 (at + 3) a ∙ l3 in
-    let p0 : word w4 at ≡ s =
-    word-other w3 (at + 3) a at (λ q. omega arith) ∙ word-other w2 (at + 2) u at (λ q. omega arith) ∙
+    let p0 : word w4 at ≡ s = word-other w3 (at + 3) a at (λ q. omega arith) ∙ word-other w2 (at + 2) u at (λ q. omega arith) ∙
     word-other w1 (at + 1) n at (λ q. omega arith) ∙ word-same ws at s at (omega arith) refl in
     let p1 : word w4 (at + 1) ≡ n =
     word-other w3 (at + 3) a (at + 1) (λ q. omega arith) ∙ word-other w2 (at + 2) u (at + 1) (λ q. omega arith) ∙

@@ -86,20 +86,18 @@ parts-tested ws p =
     let C = countsTested ws in
     let L = linkTested ws in
     let n = leb (word ws acceptedAt) (word ws counterAt + (lengthsBelow ws 64 + cond (eqb (word ws leftAt) 0) 0 1)) in
-    let s : S ≡ true =
-    and-eq-true-iff (leb (word ws classesAt) 8 && settingsAllowed (settingsAt ws))
+    let s : S ≡ true = and-eq-true-iff (leb (word ws classesAt) 8 && settingsAllowed (settingsAt ws))
     (zeros ws (factorsAt + word ws classesAt) (rowCountAt - (factorsAt + word ws classesAt))) .1 (
       and-eq-true-iff (leb (word ws classesAt) 8) (settingsAllowed (settingsAt ws)) .1 (le-leb _ _ (p .classes), p .settings),
       p .factors-clear,
     ) in
-    let r : R ≡ true =
-    and-eq-true-iff (leb (word ws rowCountAt) mostConnections && every (rowKept ws) (standings ws))
+    let r : R ≡ true = and-eq-true-iff (leb (word ws rowCountAt) mostConnections && every (rowKept ws) (standings ws))
     (zeros ws (rowsAt + 6 * word ws rowCountAt) (counterAt - (rowsAt + 6 * word ws rowCountAt))) .1 (
-      and-eq-true-iff (leb (word ws rowCountAt) mostConnections) (every (rowKept ws) (standings ws)) .1 (le-leb _ _ (p .rows), p .rows-kept),
+      and-eq-true-iff (leb (word ws rowCountAt) mostConnections) (every (rowKept ws) (standings ws)) .1
+          (le-leb _ _ (p .rows), p .rows-kept),
       p .rows-clear,
     ) in
-    let c : C ≡ true =
-    and-eq-true-iff (leb (word ws counterAt) lastSlot && leb (lengthsBelow ws 64) mostWaiting) n .1 (
+    let c : C ≡ true = and-eq-true-iff (leb (word ws counterAt) lastSlot && leb (lengthsBelow ws 64) mostWaiting) n .1 (
       and-eq-true-iff (leb (word ws counterAt) lastSlot) (leb (lengthsBelow ws 64) mostWaiting) .1
           (le-leb _ _ (p .counter), le-leb _ _ (p .total)),
       le-leb _ _ (p .accepted),
@@ -129,8 +127,7 @@ link-facts ws e =
     ⊎-elim
     (λ (q : eqb (word ws leftAt) 0 ≡ true).
     (let z = eqb-true (word ws leftAt) 0 q in
-    let c : zeros ws linkAt (lengthsAt - linkAt) ≡ true =
-    sym (ap (λ b. cond b (zeros ws linkAt (lengthsAt - linkAt))
+    let c : zeros ws linkAt (lengthsAt - linkAt) ≡ true = sym (ap (λ b. cond b (zeros ws linkAt (lengthsAt - linkAt))
     (packetKept (contents ws) (packetAt ws linkAt) && ltb (word ws leftAt) (word ws (linkAt + 2)))) q) ∙ e in
     record {
       clear = ap (λ b. cond b (zeros ws linkAt (lengthsAt - linkAt)) true) q ∙ c;
@@ -248,7 +245,8 @@ parts-formed ws p =
         and-eq-true-iff (leb boxWords (length ws)) (unusedClear ws) .1 (
           le-leb _ _ (p .enough),
           and-eq-true-iff (zeros ws (factorsAt + word ws classesAt) (rowCountAt - (factorsAt + word ws classesAt)))
-              (zeros ws (rowsAt + 6 * word ws rowCountAt) (counterAt - (rowsAt + 6 * word ws rowCountAt))) .1 (p .factors-clear, p .rows-clear),
+              (zeros ws (rowsAt + 6 * word ws rowCountAt) (counterAt - (rowsAt + 6 * word ws rowCountAt))) .1
+              (p .factors-clear, p .rows-clear),
         ),
         link-facts ws (p .link) .clear,
       ),

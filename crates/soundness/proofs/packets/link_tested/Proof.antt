@@ -36,7 +36,8 @@ shared-slice-read-result c = search needs
 returns-3 : tie.Need-returns-3
 unfolding linkTested
 returns-3 c =
-    let ws = c .before .before .before .before .before .before .args .ws .now in
+    let back5 = c .before .before .before .before .before in
+    let ws = back5 .before .args .ws .now in
     let e : packetKept (contents ws) (packetAt ws linkAt) ≡ true = sym (c .before .before .packet-kept .ensures) ∙
     not-false _ (c .before .if2 .left) in
     simp (ne-eqb _ _ (c .before .before .before .if1 .left), e)

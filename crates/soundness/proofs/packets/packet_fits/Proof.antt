@@ -37,12 +37,13 @@ rank-of-requires c κs = (c .before .before .before .before .before .pre, sym (c
 returns-3 : tie.Need-returns-3
 unfolding packetFits packetAt
 returns-3 c =
-    let ws = c .before .before .before .before .before .before .args .ws .now in
-    let at = c .before .before .before .before .before .before .args .at in
+    let back5 = c .before .before .before .before .before in
+    let ws = back5 .before .args .ws .now in
+    let at = back5 .before .args .at in
     let e : packetKept (contents ws) (packetAt ws at) ≡ true = sym (c .before .before .packet-kept .ensures) ∙
     not-false _ (c .before .if2 .left) in
     sym (simp (lt-ltb _ _ (c .before .before .before .if1 .left), e)
-    (ap (λ r. eqb r (c .before .before .before .before .before .before .args .rank)) (sym (c .rank-of .ensures))))
+    (ap (λ r. eqb r (back5 .before .args .rank)) (sym (c .rank-of .ensures))))
 
 pub packet-fits-spec : {M : Type 1} → statement M
 packet-fits-spec =

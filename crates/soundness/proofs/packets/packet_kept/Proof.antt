@@ -49,8 +49,9 @@ is-within-requires-2 c κs = search needs
 
 returns-2 : tie.Need-returns-2
 returns-2 c =
-    let ws = c .before .before .before .before .before .before .before .before .before .args .ws .now in
-    let at = c .before .before .before .before .before .before .before .before .before .args .at in
+    let back5 = c .before .before .before .before .before in
+    let ws = back5 .before .before .before .before .args .ws .now in
+    let at = back5 .before .before .before .before .args .at in
     let e : within 1 (word ws (at + 1)) (word ws rowCountAt) ≡ false = sym (c .before .is-within2 .ensures) ∙ not-true _ (c .if2 .taken) in
     sym (packet-parts ws at ∙ simp (e, and-false))
 
@@ -80,10 +81,12 @@ mul-is-within-4 c = search needs
 
 shared-slice-read-is-within-5 : tie.Need-shared-slice-read-is-within-5
 shared-slice-read-is-within-5 c =
+    let back5 = c .before .before .before .before .before in
+    let back10 = back5 .before .before .before .before .before in
     let f = within-facts 1 _ _ (sym (c .before .before .before .before .is-within2 .ensures) ∙
     not-false _ (c .before .before .before .if2 .left)) in
     let w = c .before .wide .ensures .0 in
-    let k = c .before .before .before .before .before .before .before .before .before .before .before .before .pre .0 in
+    let k = back10 .before .before .pre .0 in
     omega (arith, k .enough, k .rows)
 
 is-within-requires-3 : tie.Need-is-within-requires-3
@@ -91,11 +94,12 @@ is-within-requires-3 c κs = search needs
 
 returns-3 : tie.Need-returns-3
 returns-3 c =
-    let ws = c .before .before .before .before .before .before .before .before .before .before .before .before .before .before .args .ws
-    .now in
-    let at = c .before .before .before .before .before .before .before .before .before .before .before .before .before .before .args .at in
+    let back5 = c .before .before .before .before .before in
+    let back10 = back5 .before .before .before .before .before in
+    let ws = back10 .before .before .before .before .args .ws .now in
+    let at = back10 .before .before .before .before .args .at in
     let n = word ws (at + 1) in
-    let f = within-facts 1 n (word ws rowCountAt) (sym (c .before .before .before .before .before .before .is-within2 .ensures) ∙
+    let f = within-facts 1 n (word ws rowCountAt) (sym (back5 .before .is-within2 .ensures) ∙
     not-false _ (c .before .before .before .before .before .if2 .left)) in
     let e : within 1 (word ws (at + 2)) (connection (contents ws) n .longest) ≡ false =
     ap (within 1 (word ws (at + 2))) (connection-longest ws n (f .0) (f .1) ∙
@@ -117,17 +121,16 @@ shared-slice-read-result-2 c = search needs
 
 returns-4 : tie.Need-returns-4
 returns-4 c =
-    let ws = c .before .before .before .before .before .before .before .before .before .before .before .before .before .before .before
-    .before .args .ws .now in
-    let at = c .before .before .before .before .before .before .before .before .before .before .before .before .before .before .before
-    .before .args .at in
+    let back5 = c .before .before .before .before .before in
+    let back10 = back5 .before .before .before .before .before in
+    let back15 = back10 .before .before .before .before .before in
+    let ws = back15 .before .args .ws .now in
+    let at = back15 .before .args .at in
     let n = word ws (at + 1) in
-    let a : within 1 (word ws at) (word ws acceptedAt) ≡ true =
-    sym (c .before .before .before .before .before .before .before .before .before .before .before .before .is-within .ensures) ∙
-    not-false _ (c .before .before .before .before .before .before .before .before .before .before .before .if1 .left) in
-    let b : within 1 n (word ws rowCountAt) ≡ true = sym
-    (c .before .before .before .before .before .before .before .before .is-within2 .ensures) ∙
-    not-false _ (c .before .before .before .before .before .before .before .if2 .left) in
+    let a : within 1 (word ws at) (word ws acceptedAt) ≡ true = sym (back10 .before .before .is-within .ensures) ∙
+    not-false _ (back10 .before .if1 .left) in
+    let b : within 1 n (word ws rowCountAt) ≡ true = sym (back5 .before .before .before .is-within2 .ensures) ∙
+    not-false _ (back5 .before .before .if2 .left) in
     let f = within-facts 1 n (word ws rowCountAt) b in
     let e : within 1 (word ws (at + 2)) (connection (contents ws) n .longest) ≡ true =
     ap (within 1 (word ws (at + 2))) (connection-longest ws n (f .0) (f .1) ∙

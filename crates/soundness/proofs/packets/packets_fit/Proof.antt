@@ -43,10 +43,14 @@ mul-before : tie.Need-mul-before Inv-loop μ-loop
 mul-before c = omega (arith, c .before .before .before .before .before .pre .1)
 
 shared-slice-read-before : tie.Need-shared-slice-read-before Inv-loop μ-loop
-shared-slice-read-before c = omega (arith, c .before .before .before .before .before .before .pre .1)
+shared-slice-read-before c =
+    let back5 = c .before .before .before .before .before in
+    omega (arith, back5 .before .pre .1)
 
 add-at : tie.Need-add-at Inv-loop μ-loop
-add-at c = omega (arith, c .before .before .before .before .before .before .pre .1)
+add-at c =
+    let back5 = c .before .before .before .before .before in
+    omega (arith, back5 .before .pre .1)
 
 add-i : tie.Need-add-i Inv-loop μ-loop
 add-i c = omega arith
@@ -57,8 +61,9 @@ loop-less c = omega arith
 loop-again : tie.Need-loop-again Inv-loop μ-loop
 unfolding packetsFit packetAt
 loop-again c =
+    let back5 = c .before .before .before .before .before in
     let s = c .before .before .before .before .loop in
-    let a = c .before .before .before .before .before .before .args in
+    let a = back5 .before .args in
     let ws = a .ws .now in
     let e : packetsFit (contents ws) (a .rank) (s .before) (series (packetAt ws) 4 (s .at) (a .count - s .i)) ≡
     packetsFit (contents ws) (a .rank) (word ws (s .at)) (series (packetAt ws) 4 (s .at + 4) (a .count - (s .i + 1))) =

@@ -65,13 +65,13 @@ mul-wide-5 c = search needs
 
 shared-slice-read-wide-5 : tie.Need-shared-slice-read-wide-5
 shared-slice-read-wide-5 c =
-    let s = c .before .before .before .before .before .before .before .before .before in
+    let back5 = c .before .before .before .before .before in
+    let s = back5 .before .before .before .before in
     let ws = s .args .ws .now in
     let n = word ws (s .args .at + 1) in
     let f = kept-connection ws (s .args .at) (s .pre .1) in
     let k = s .pre .0 .0 in
-    let e : (rowsAt - 6 + 6 * c .before .before .before .before .before .before .wide .result) ≡ rowsAt + 6 * (n - 1) =
-    omega (arith, c .before .before .before .before .before .before .wide .ensures .0) in
+    let e : (rowsAt - 6 + 6 * back5 .before .wide .result) ≡ rowsAt + 6 * (n - 1) = omega (arith, back5 .before .wide .ensures .0) in
     let q : c .before .before .before .before .wide2 .result ≡ word ws (rowsAt + 6 * (n - 1)) =
     c .before .before .before .before .wide2 .ensures .0 ∙ ap (λ i. word ws i) e in
     omega (arith, k .enough, k .classes, k .class-most (n - 1) (omega arith))
@@ -84,13 +84,15 @@ add-result c = search needs
 
 returns : tie.Need-returns
 returns c =
-    let s = c .before .before .before .before .before .before .before .before .before .before in
+    let back5 = c .before .before .before .before .before in
+    let back10 = back5 .before .before .before .before .before in
+    let s = back10 in
     let ws = s .args .ws .now in
     let at = s .args .at in
     let f = kept-connection ws at (s .pre .1) in
     let a = c .before .before .wide3 .ensures .0 in
     let d = c .before .before .before .before .before .wide2 .ensures .0 ∙
-    ap (λ m. word ws (rowsAt - 6 + 6 * m)) (c .before .before .before .before .before .before .before .wide .ensures .0) in
+    ap (λ m. word ws (rowsAt - 6 + 6 * m)) (back5 .before .before .wide .ensures .0) in
     let b = c .wide4 .ensures .0 ∙ ap (λ m. word ws (factorsAt - 1 + m)) d in
     sym (rank-at ws at (s .pre .0 .0) (f .0) (f .1) ∙
     ap (λ m. m + word ws (factorsAt - 1 + word ws ((rowsAt - 6 + 6 * word ws (at + 1))))) (sym a) ∙

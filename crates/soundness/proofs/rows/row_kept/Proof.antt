@@ -44,8 +44,9 @@ is-within-requires-2 c κs = search needs
 
 returns-2 : tie.Need-returns-2
 returns-2 c =
-    let ws = c .before .before .before .before .before .before .before .before .args .ws .now in
-    let at = c .before .before .before .before .before .before .before .before .args .at in
+    let back5 = c .before .before .before .before .before in
+    let ws = back5 .before .before .before .args .ws .now in
+    let at = back5 .before .before .before .args .at in
     let e : within 1 (word ws (at + 1)) 64 ≡ false = sym (c .before .is-within2 .ensures) ∙ not-true _ (c .if2 .taken) in
     sym (row-parts ws at ∙ simp (e, and-false))
 
@@ -63,8 +64,10 @@ is-within-requires-3 c κs = search needs
 
 returns-3 : tie.Need-returns-3
 returns-3 c =
-    let ws = c .before .before .before .before .before .before .before .before .before .before .before .args .ws .now in
-    let at = c .before .before .before .before .before .before .before .before .before .before .before .args .at in
+    let back5 = c .before .before .before .before .before in
+    let back10 = back5 .before .before .before .before .before in
+    let ws = back10 .before .args .ws .now in
+    let at = back10 .before .args .at in
     let e : within 1 (word ws (at + 2)) 64 ≡ false = sym (c .before .is-within3 .ensures) ∙ not-true _ (c .if3 .taken) in
     sym (row-parts ws at ∙ simp (e, and-false))
 
@@ -85,10 +88,11 @@ is-within-requires-4 c κs = search needs
 
 returns-4 : tie.Need-returns-4
 returns-4 c =
-    let ws = c .before .before .before .before .before .before .before .before .before .before .before .before .before .before .before .args
-    .ws .now in
-    let at = c .before .before .before .before .before .before .before .before .before .before .before .before .before .before .before .args
-    .at in
+    let back5 = c .before .before .before .before .before in
+    let back10 = back5 .before .before .before .before .before in
+    let back15 = back10 .before .before .before .before .before in
+    let ws = back15 .args .ws .now in
+    let at = back15 .args .at in
     let e : within 1 (word ws (at + 3)) (word ws cycleAt) ≡ false = sym (c .before .is-within4 .ensures) ∙ not-true _ (c .if4 .taken) in
     sym (row-parts ws at ∙ simp (e, and-false))
 
@@ -97,10 +101,11 @@ rem-if5 c = within-facts 1 _ _ (sym (c .before .is-within4 .ensures) ∙ not-fal
 
 returns-5 : tie.Need-returns-5
 returns-5 c =
-    let ws = c .before .before .before .before .before .before .before .before .before .before .before .before .before .before .before
-    .before .args .ws .now in
-    let at = c .before .before .before .before .before .before .before .before .before .before .before .before .before .before .before
-    .before .args .at in
+    let back5 = c .before .before .before .before .before in
+    let back10 = back5 .before .before .before .before .before in
+    let back15 = back10 .before .before .before .before .before in
+    let ws = back15 .before .args .ws .now in
+    let at = back15 .before .args .at in
     let e : eqb (word ws cycleAt % word ws (at + 3)) 0 ≡ false = ne-eqb _ 0 (c .if5 .taken) in
     sym (row-parts ws at ∙ simp (e, and-false))
 
@@ -130,22 +135,18 @@ allowance-kept-requires c κs = search needs
 
 returns-6 : tie.Need-returns-6
 returns-6 c =
-    let ws = c .before .before .before .before .before .before .before .before .before .before .before .before .before .before .before
-    .before .before .before .before .before .args .ws .now in
-    let at = c .before .before .before .before .before .before .before .before .before .before .before .before .before .before .before
-    .before .before .before .before .before .args .at in
-    let a : within 1 (word ws at) (word ws classesAt) ≡ true =
-    sym (c .before .before .before .before .before .before .before .before .before .before .before .before .before .before .before .before
-    .is-within .ensures) ∙ not-false _ (c .before .before .before .before .before .before .before .before .before .before .before .before
-    .before .before .before .if1 .left) in
-    let b : within 1 (word ws (at + 1)) 64 ≡ true = sym
-    (c .before .before .before .before .before .before .before .before .before .before .before .before .before .is-within2 .ensures) ∙
-    not-false _ (c .before .before .before .before .before .before .before .before .before .before .before .before .if2 .left) in
-    let d : within 1 (word ws (at + 2)) 64 ≡ true = sym
-    (c .before .before .before .before .before .before .before .before .before .before .is-within3 .ensures) ∙
-    not-false _ (c .before .before .before .before .before .before .before .before .before .if3 .left) in
-    let e : within 1 (word ws (at + 3)) (word ws cycleAt) ≡ true =
-    sym (c .before .before .before .before .before .before .is-within4 .ensures) ∙
+    let back5 = c .before .before .before .before .before in
+    let back10 = back5 .before .before .before .before .before in
+    let back15 = back10 .before .before .before .before .before in
+    let back20 = back15 .before .before .before .before .before in
+    let ws = back20 .args .ws .now in
+    let at = back20 .args .at in
+    let a : within 1 (word ws at) (word ws classesAt) ≡ true = sym (back15 .before .is-within .ensures) ∙ not-false _ (back15 .if1 .left) in
+    let b : within 1 (word ws (at + 1)) 64 ≡ true = sym (back10 .before .before .before .is-within2 .ensures) ∙
+    not-false _ (back10 .before .before .if2 .left) in
+    let d : within 1 (word ws (at + 2)) 64 ≡ true = sym (back10 .is-within3 .ensures) ∙
+    not-false _ (back5 .before .before .before .before .if3 .left) in
+    let e : within 1 (word ws (at + 3)) (word ws cycleAt) ≡ true = sym (back5 .before .is-within4 .ensures) ∙
     not-false _ (c .before .before .before .before .before .if4 .left) in
     let f : eqb (word ws cycleAt % word ws (at + 3)) 0 ≡ true = eq-eqb _ 0 (c .before .before .before .before .if5 .left) in
     sym (row-parts ws at ∙ simp (a, b, d, e, f) (sym (c .allowance-kept .ensures)))

@@ -37,8 +37,9 @@ row-kept-requires c κs = omega arith
 
 returns : tie.Need-returns Inv-loop μ-loop
 returns c =
+    let back5 = c .before .before .before .before .before in
     let s = c .before .before .before .loop in
-    let ws = c .before .before .before .before .before .before .before .args .ws .now in
+    let ws = back5 .before .before .args .ws .now in
     sym (sym (s .inv .3) ∙ every-stop (rowKept ws) (standingAt ws) 6 (s .at) (c .before .before .before .before .wide .result) (s .i)
     (c .before .before .loop-test .taken)
     (sym (c .before .row-kept .ensures) ∙ not-true _ (c .if1 .taken)))
@@ -54,8 +55,9 @@ loop-less c = omega arith
 
 loop-again : tie.Need-loop-again Inv-loop μ-loop
 loop-again c =
+    let back5 = c .before .before .before .before .before in
     let s = c .before .before .before .loop in
-    let ws = c .before .before .before .before .before .before .before .args .ws .now in (
+    let ws = back5 .before .before .args .ws .now in (
       omega arith,
       omega arith,
       omega arith,

@@ -47,7 +47,8 @@ are-zero-requires c κs = search needs
 returns-3 : tie.Need-returns-3
 unfolding rowsTested
 returns-3 c =
-    let ws = c .before .before .before .before .before .before .before .before .args .ws .now in
+    let back5 = c .before .before .before .before .before in
+    let ws = back5 .before .before .before .args .ws .now in
     let e : every (rowKept ws) (standings ws) ≡ true = sym (c .before .before .before .before .rows-kept .ensures) ∙
     not-false _ (c .before .before .before .if2 .left) in
     let n = c .before .wide .ensures .0 in

@@ -54,17 +54,17 @@ settings-allowed-requires c κs = search needs
 returns-2 : tie.Need-returns-2
 unfolding settingsTested settingsAt
 returns-2 c =
-    let ws = c .before .before .before .before .before .before .before .before .before .args .ws .now in
-    let n : factorsAt + c .before .before .before .before .before .before .wide .result - factorsAt ≡ word ws classesAt =
-    omega (arith, c .before .before .before .before .before .before .wide .ensures .0) in
-    let s : take (factorsAt + c .before .before .before .before .before .before .wide .result - factorsAt) (drop factorsAt ws)
+    let back5 = c .before .before .before .before .before in
+    let ws = back5 .before .before .before .before .args .ws .now in
+    let n : factorsAt + back5 .before .wide .result - factorsAt ≡ word ws classesAt = omega (arith, back5 .before .wide .ensures .0) in
+    let s : take (factorsAt + back5 .before .wide .result - factorsAt) (drop factorsAt ws)
     ≡ series (λ i. word ws i) 1 factorsAt (word ws classesAt) =
     ap (λ m. take m (drop factorsAt ws)) n ∙ sym (series-take ws factorsAt (word ws classesAt)
     (omega (
       arith,
       c .before .before .before .before .before .if1 .left,
-      c .before .before .before .before .before .before .wide .ensures .0,
-      c .before .before .before .before .before .before .before .before .before .pre,
+      back5 .before .wide .ensures .0,
+      back5 .before .before .before .before .pre,
     ))) in
     let e : settingsAllowed (settingsAt ws) ≡ false =
     sym (ap (λ fs. settingsAllowed (asked (word ws intervalAt) (word ws cycleAt) fs)) s) ∙ sym (c .before .settings-allowed .ensures) ∙
@@ -77,23 +77,23 @@ are-zero-requires c κs = search needs
 returns-3 : tie.Need-returns-3
 unfolding settingsTested settingsAt
 returns-3 c =
-    let ws = c .before .before .before .before .before .before .before .before .before .before .args .ws .now in
-    let w = c .before .before .before .before .before .before .before .wide .ensures .0 in
-    let n : factorsAt + c .before .before .before .before .before .before .before .wide .result - factorsAt ≡ word ws classesAt =
-    omega arith in
-    let s : take (factorsAt + c .before .before .before .before .before .before .before .wide .result - factorsAt) (drop factorsAt ws)
+    let back5 = c .before .before .before .before .before in
+    let back10 = back5 .before .before .before .before .before in
+    let ws = back10 .args .ws .now in
+    let w = back5 .before .before .wide .ensures .0 in
+    let n : factorsAt + back5 .before .before .wide .result - factorsAt ≡ word ws classesAt = omega arith in
+    let s : take (factorsAt + back5 .before .before .wide .result - factorsAt) (drop factorsAt ws)
     ≡ series (λ i. word ws i) 1 factorsAt (word ws classesAt) =
     ap (λ m. take m (drop factorsAt ws)) n ∙ sym (series-take ws factorsAt (word ws classesAt)
     (omega (
       arith,
-      c .before .before .before .before .before .before .if1 .left,
-      c .before .before .before .before .before .before .before .before .before .before .pre,
+      back5 .before .if1 .left,
+      back10 .pre,
     ))) in
-    let e : settingsAllowed (settingsAt ws) ≡ true =
-    sym (ap (λ fs. settingsAllowed (asked (word ws intervalAt) (word ws cycleAt) fs)) s) ∙
+    let e : settingsAllowed (settingsAt ws) ≡ true = sym (ap (λ fs. settingsAllowed (asked (word ws intervalAt) (word ws cycleAt) fs)) s) ∙
     sym (c .before .before .settings-allowed .ensures) ∙ not-false _ (c .before .if2 .left) in
     let l : leb (word ws classesAt) 8 ≡ true = le-leb (word ws classesAt) 8
-    (omega (arith, c .before .before .before .before .before .before .if1 .left)) in
+    (omega (arith, back5 .before .if1 .left)) in
     c .are-zero .ensures ∙ ap (λ m. zeros ws (factorsAt + m) (rowCountAt - (factorsAt + m))) w ∙ sym (simp (l, e))
 
 pub settings-tested-spec : {M : Type 1} → statement M

@@ -51,12 +51,13 @@ wide-requires-2 c κs = search needs
 returns-3 : tie.Need-returns-3
 unfolding countsTested
 returns-3 c =
-    let ws = c .before .before .before .before .before .before .before .before .before .before .before .args .ws .now in
-    let n = c .before .before .before .before .before .before .before .lengths-below .ensures .0 in
-    let a : leb (word ws counterAt) 4000000000 ≡ true =
-    le-leb _ _ (c .before .before .before .before .before .before .before .before .if1 .left) in
+    let back5 = c .before .before .before .before .before in
+    let back10 = back5 .before .before .before .before .before in
+    let ws = back10 .before .args .ws .now in
+    let n = back5 .before .before .lengths-below .ensures .0 in
+    let a : leb (word ws counterAt) 4000000000 ≡ true = le-leb _ _ (back5 .before .before .before .if1 .left) in
     let b : leb (lengthsBelow ws 64) 1024 ≡ true = le-leb (lengthsBelow ws 64) 1024 (omega arith) in
-    leb-same (c .wide2 .result) (c .before .before .before .before .wide .result + c .before .before .before .before .before .before .before
+    leb-same (c .wide2 .result) (c .before .before .before .before .wide .result + back5 .before .before
     .lengths-below .result) (word ws acceptedAt) (word ws counterAt + (lengthsBelow ws 64 + 0)) (λ h. omega arith) (λ h. omega arith) ∙
     sym (simp (a, b, eq-eqb _ _ (c .before .before .if3 .taken)))
 
@@ -72,12 +73,13 @@ add-result c = search needs
 returns-4 : tie.Need-returns-4
 unfolding countsTested
 returns-4 c =
-    let ws = c .before .before .before .before .before .before .before .before .before .before .before .args .ws .now in
-    let n = c .before .before .before .before .before .before .before .lengths-below .ensures .0 in
-    let a : leb (word ws counterAt) 4000000000 ≡ true =
-    le-leb _ _ (c .before .before .before .before .before .before .before .before .if1 .left) in
+    let back5 = c .before .before .before .before .before in
+    let back10 = back5 .before .before .before .before .before in
+    let ws = back10 .before .args .ws .now in
+    let n = back5 .before .before .lengths-below .ensures .0 in
+    let a : leb (word ws counterAt) 4000000000 ≡ true = le-leb _ _ (back5 .before .before .before .if1 .left) in
     let b : leb (lengthsBelow ws 64) 1024 ≡ true = le-leb (lengthsBelow ws 64) 1024 (omega arith) in
-    leb-same (c .wide3 .result) (c .before .before .before .before .wide .result + c .before .before .before .before .before .before .before
+    leb-same (c .wide3 .result) (c .before .before .before .before .wide .result + back5 .before .before
     .lengths-below .result + 1) (word ws acceptedAt) (word ws counterAt + (lengthsBelow ws 64 + 1)) (λ h. omega arith) (λ h. omega arith) ∙
     sym (simp (a, b, ne-eqb _ _ (c .before .before .if3 .left)))
 

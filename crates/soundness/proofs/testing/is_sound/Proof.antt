@@ -35,7 +35,8 @@ rows-tested-requires c κs = search needs
 returns-3 : tie.Need-returns-3
 unfolding tested
 returns-3 c =
-    let ws = c .before .before .before .before .before .before .args .ws .now in
+    let back5 = c .before .before .before .before .before in
+    let ws = back5 .before .args .ws .now in
     let e : rowsTested ws ≡ false = sym (c .before .rows-tested .ensures) ∙ not-true _ (c .if3 .taken) in
     sym (sym (tested-sound ws) ∙ simp (e, and-false))
 
@@ -45,34 +46,41 @@ counts-tested-requires c κs = search needs
 returns-4 : tie.Need-returns-4
 unfolding tested
 returns-4 c =
-    let ws = c .before .before .before .before .before .before .before .before .args .ws .now in
+    let back5 = c .before .before .before .before .before in
+    let ws = back5 .before .before .before .args .ws .now in
     let e : countsTested ws ≡ false = sym (c .before .counts-tested .ensures) ∙ not-true _ (c .if4 .taken) in
     sym (sym (tested-sound ws) ∙ simp (e, and-false))
 
 link-tested-requires : tie.Need-link-tested-requires
 link-tested-requires c κs =
-    let ws = c .before .before .before .before .before .before .before .before .args .ws .now in
-    tables-tested ws (c .before .before .before .before .before .before .if1 .left)
+    let back5 = c .before .before .before .before .before in
+    let ws = back5 .before .before .before .args .ws .now in
+    tables-tested ws (back5 .before .if1 .left)
     (sym (c .before .before .before .before .before .settings-tested .ensures) ∙ not-false _ (c .before .before .before .before .if2 .left))
     (sym (c .before .before .before .rows-tested .ensures) ∙ not-false _ (c .before .before .if3 .left))
 
 returns-5 : tie.Need-returns-5
 unfolding tested
 returns-5 c =
-    let ws = c .before .before .before .before .before .before .before .before .before .before .args .ws .now in
+    let back5 = c .before .before .before .before .before in
+    let back10 = back5 .before .before .before .before .before in
+    let ws = back10 .args .ws .now in
     let e : linkTested ws ≡ false = sym (c .before .link-tested .ensures) ∙ not-true _ (c .if5 .taken) in
     sym (sym (tested-sound ws) ∙ simp (e, and-false))
 
 queues-tested-requires : tie.Need-queues-tested-requires
 unfolding countsTested
 queues-tested-requires c κs =
-    let ws = c .before .before .before .before .before .before .before .before .before .before .args .ws .now in
+    let back5 = c .before .before .before .before .before in
+    let back10 = back5 .before .before .before .before .before in
+    let ws = back10 .args .ws .now in
     let t = sym (c .before .before .before .counts-tested .ensures) ∙ not-false _ (c .before .before .if4 .left) in
     let a = and-eq-true-iff (leb (word ws counterAt) 4000000000 && leb (lengthsBelow ws 64) 1024) _ .0 t in (
-      tables-tested ws (c .before .before .before .before .before .before .before .before .if1 .left)
-          (sym (c .before .before .before .before .before .before .before .settings-tested .ensures) ∙
-          not-false _ (c .before .before .before .before .before .before .if2 .left))
-          (sym (c .before .before .before .before .before .rows-tested .ensures) ∙ not-false _ (c .before .before .before .before .if3 .left)),
+      tables-tested ws (back5 .before .before .before .if1 .left)
+          (sym (back5 .before .before .settings-tested .ensures) ∙
+          not-false _ (back5 .before .if2 .left))
+          (sym (c .before .before .before .before .before .rows-tested .ensures) ∙
+          not-false _ (c .before .before .before .before .if3 .left)),
       leb-true (lengthsBelow ws 64) 1024 (and-eq-true-iff (leb (word ws counterAt) 4000000000) (leb (lengthsBelow ws 64) 1024) .0
           (a .0) .1),
     )
@@ -80,12 +88,14 @@ queues-tested-requires c κs =
 returns-6 : tie.Need-returns-6
 unfolding tested
 returns-6 c =
-    let ws = c .before .before .before .before .before .before .before .before .before .before .before .args .ws .now in
+    let back5 = c .before .before .before .before .before in
+    let back10 = back5 .before .before .before .before .before in
+    let ws = back10 .before .args .ws .now in
     let l : leb boxWords (length ws) ≡ true = le-leb _ _
-    (c .before .before .before .before .before .before .before .before .before .if1 .left) in
-    let s : settingsTested ws ≡ true = sym (c .before .before .before .before .before .before .before .before .settings-tested .ensures) ∙
-    not-false _ (c .before .before .before .before .before .before .before .if2 .left) in
-    let r : rowsTested ws ≡ true = sym (c .before .before .before .before .before .before .rows-tested .ensures) ∙
+    (back5 .before .before .before .before .if1 .left) in
+    let s : settingsTested ws ≡ true = sym (back5 .before .before .before .settings-tested .ensures) ∙
+    not-false _ (back5 .before .before .if2 .left) in
+    let r : rowsTested ws ≡ true = sym (back5 .before .rows-tested .ensures) ∙
     not-false _ (c .before .before .before .before .before .if3 .left) in
     let n : countsTested ws ≡ true = sym (c .before .before .before .before .counts-tested .ensures) ∙
     not-false _ (c .before .before .before .if4 .left) in

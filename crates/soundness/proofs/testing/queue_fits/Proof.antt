@@ -47,7 +47,8 @@ packets-fit-requires c κs = search needs
 returns : tie.Need-returns
 unfolding queueFits queueAt tagOf
 returns c =
-    let s = c .before .before .before .before .before .before .before in
+    let back5 = c .before .before .before .before .before in
+    let s = back5 .before .before in
     let ws = s .args .ws .now in
     let place = s .args .place in
     let t = c .before .before .before .before .before .turns .ensures .0 in
@@ -67,7 +68,8 @@ returns c =
 returns-2 : tie.Need-returns-2
 unfolding queueFits tagOf
 returns-2 c =
-    let s = c .before .before .before .before .before .before in
+    let back5 = c .before .before .before .before .before in
+    let s = back5 .before in
     let ws = s .args .ws .now in
     let place = s .args .place in
     let t = c .before .before .before .before .turns .ensures .0 in

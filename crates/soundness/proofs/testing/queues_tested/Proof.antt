@@ -50,14 +50,17 @@ mul-wide : tie.Need-mul-wide Inv-loop μ-loop
 mul-wide c = omega arith
 
 shared-slice-read-wide : tie.Need-shared-slice-read-wide Inv-loop μ-loop
-shared-slice-read-wide c = omega (arith, c .before .before .before .before .before .before .pre .0 .enough)
+shared-slice-read-wide c =
+    let back5 = c .before .before .before .before .before in
+    omega (arith, back5 .before .pre .0 .enough)
 
 wide-requires : tie.Need-wide-requires Inv-loop μ-loop
 wide-requires c κs = search needs
 
 mul-at : tie.Need-mul-at Inv-loop μ-loop
 mul-at c =
-    let s = c .before .before .before .before .before .before .before in
+    let back5 = c .before .before .before .before .before in
+    let s = back5 .before .before in
     let l = lengths-most (s .args .ws .now) (c .before .before .before .before .before .loop .place) 64
     (c .before .before .before .before .loop-test .taken) in
     omega (arith, s .pre .1, c .wide .ensures .0)
@@ -65,7 +68,8 @@ mul-at c =
 add-at : tie.Need-add-at Inv-loop μ-loop
 unfolding startOf
 add-at c =
-    let s = c .before .before .before .before .before .before .before in
+    let back5 = c .before .before .before .before .before in
+    let s = back5 .before .before in
     let l = lengths-most (s .args .ws .now) (c .before .before .before .before .before .loop .place) 64
     (c .before .before .before .before .loop-test .taken) in
     omega (arith, s .pre .1, c .wide .ensures .0, c .before .before .before .before .before .loop .inv .1)
@@ -79,11 +83,11 @@ loop-less c = omega arith
 loop-again : tie.Need-loop-again Inv-loop μ-loop
 unfolding startOf lengthsBelow everyBelow
 loop-again c =
-    let ws = c .before .before .before .before .before .before .before .args .ws .now in
+    let back5 = c .before .before .before .before .before in
+    let ws = back5 .before .before .args .ws .now in
     let p = c .before .before .before .before .before .loop .place in
     let test : ℕ → Bool = λ p. queueFits ws (tagOf (turnsAt ws) p) (queueAt ws p) in
-    let e : everyBelow test (suc p) ≡ true =
-    and-eq-true-iff (everyBelow test p) (test p) .1 (
+    let e : everyBelow test (suc p) ≡ true = and-eq-true-iff (everyBelow test p) (test p) .1 (
       c .before .before .before .before .before .loop .inv .2,
       sym (c .before .before .before .queue-fits .ensures) ∙ not-false _ (c .before .before .if1 .left),
     ) in (

@@ -34,7 +34,8 @@ add-at c = search needs
 
 move-down-requires : tie.Need-move-down-requires
 move-down-requires c κs =
-    let s = c .before .before .before .before .before .before .before .before in
+    let back5 = c .before .before .before .before .before in
+    let s = back5 .before .before .before in
     let ws = s .args .ws .now in
     let k = s .pre .0 in
     let P = c .before .before .before .before .before .place-of .result in
@@ -56,16 +57,17 @@ slice-read-ws c = search needs
 
 sub-ws : tie.Need-sub-ws
 sub-ws c =
-    let s = c .before .before .before .before .before .before .before .before .before .before .before .before in
+    let back5 = c .before .before .before .before .before in
+    let back10 = back5 .before .before .before .before .before in
+    let s = back10 .before .before in
     let ws = s .args .ws .now in
     let k = s .pre .0 in
-    let P = c .before .before .before .before .before .before .before .before .before .place-of .result in
-    let small = c .before .before .before .before .before .before .before .before .before .place-of .ensures .1 in
+    let P = back5 .before .before .before .before .place-of .result in
+    let small = back5 .before .before .before .before .place-of .ensures .1 in
     let a = c .before .before .before .before .before .lengths-below2 .ensures .0 in
-    let e = c .before .before .before .before .before .before .before .lengths-below .ensures .0 in
+    let e = back5 .before .before .lengths-below .ensures .0 in
     let l = lengths-most ws P 64 small in
-    let w = ap (λ m. word ws (lengthsAt + m)) (c .before .before .before .before .before .before .before .before .before .place-of .ensures
-    .0) in
+    let w = ap (λ m. word ws (lengthsAt + m)) (back5 .before .before .before .before .place-of .ensures .0) in
     let b = c .before .before .before .move-down .ensures .below (lengthsAt + P) (omega arith) in
     omega (arith, s .pre .2)
 
@@ -84,16 +86,18 @@ same-length c = search needs
 returns : tie.Need-returns
 unfolding contents
 returns c =
-    let s = c .before .before .before .before .before .before .before .before .before .before .before .before in
+    let back5 = c .before .before .before .before .before in
+    let back10 = back5 .before .before .before .before .before in
+    let s = back10 .before .before in
     let ws = s .args .ws .now in
     let k = s .pre .0 in
-    let P = c .before .before .before .before .before .before .before .before .before .place-of .result in
-    let small = c .before .before .before .before .before .before .before .before .before .place-of .ensures .1 in
+    let P = back5 .before .before .before .before .place-of .result in
+    let small = back5 .before .before .before .before .place-of .ensures .1 in
     let a = c .before .before .before .before .before .lengths-below2 .ensures .0 in
-    let e = c .before .before .before .before .before .before .before .lengths-below .ensures .0 in
+    let e = back5 .before .before .lengths-below .ensures .0 in
     let l = lengths-most ws P 64 small in
     let g = s .args in
-    let q = c .before .before .before .before .before .before .before .before .before .place-of .ensures .0 in
+    let q = back5 .before .before .before .before .place-of .ensures .0 in
     let down = c .before .before .before .move-down .last .0 in
     let w = ap (λ m. word ws (lengthsAt + m)) q in
     let b = c .before .before .before .move-down .ensures .below (lengthsAt + P) (omega arith) in
@@ -101,7 +105,7 @@ returns c =
     (let d = ap (λ m. word down (lengthsAt + m)) q in omega (arith, s .pre .2)) in
     rw q (behead-become ws down (g .tag) k (s .pre .1) (s .pre .2)
     (packetsAt + 4 * c .before .before .before .before .before .lengths-below2 .result)
-    (packetsAt + 4 * c .before .before .before .before .before .before .before .lengths-below .result)
+    (packetsAt + 4 * back5 .before .before .lengths-below .result)
     (word down (lengthsAt + placeOf (turnsAt ws) (g .tag)) - 1)
     (ap (λ m. packetsAt + 4 * m) a ∙ ap (λ m. packetsAt + 4 * lengthsBelow ws m) q) (ap (λ m. packetsAt + 4 * m) e)
     (c .before .before .before .move-down .ensures) v)

@@ -42,7 +42,8 @@ add-at c = search needs
 
 move-up-requires : tie.Need-move-up-requires
 move-up-requires c κs =
-    let s = c .before .before .before .before .before .before .before .before in
+    let back5 = c .before .before .before .before .before in
+    let s = back5 .before .before .before in
     let ws = s .args .ws .now in
     let k = s .pre .0 in
     let P = c .before .before .before .before .before .place-of .result in
@@ -55,13 +56,15 @@ move-up-requires c κs =
 
 write-packet-requires : tie.Need-write-packet-requires
 write-packet-requires c κs =
-    let s = c .before .before .before .before .before .before .before .before .before .before .before .before in
+    let back5 = c .before .before .before .before .before in
+    let back10 = back5 .before .before .before .before .before in
+    let s = back10 .before .before in
     let ws = s .args .ws .now in
     let k = s .pre .0 in
-    let P = c .before .before .before .before .before .before .before .before .before .place-of .result in
-    let small = c .before .before .before .before .before .before .before .before .before .place-of .ensures .1 in
+    let P = back5 .before .before .before .before .place-of .result in
+    let small = back5 .before .before .before .before .place-of .ensures .1 in
     let a = c .before .before .before .before .before .lengths-below2 .ensures .0 in
-    let e = c .before .before .before .before .before .before .before .lengths-below .ensures .0 in
+    let e = back5 .before .before .lengths-below .ensures .0 in
     let l = lengths-most ws P 64 small in
     let n = ap (lengthsBelow ws) (one-more P) ∙ lengths-next ws P in
     omega (arith, k .enough, s .pre .2, c .before .before .before .move-up .kept .0)
@@ -77,19 +80,20 @@ slice-read-ws c = search needs
 
 add-ws-2 : tie.Need-add-ws-2
 add-ws-2 c =
-    let s = c .before .before .before .before .before .before .before .before .before .before .before .before .before .before .before
-    .before in
+    let back5 = c .before .before .before .before .before in
+    let back10 = back5 .before .before .before .before .before in
+    let back15 = back10 .before .before .before .before .before in
+    let s = back15 .before in
     let ws = s .args .ws .now in
     let k = s .pre .0 in
-    let P = c .before .before .before .before .before .before .before .before .before .before .before .before .before .place-of .result in
-    let small = c .before .before .before .before .before .before .before .before .before .before .before .before .before .place-of .ensures
-    .1 in
-    let a = c .before .before .before .before .before .before .before .before .before .lengths-below2 .ensures .0 in
-    let e = c .before .before .before .before .before .before .before .before .before .before .before .lengths-below .ensures .0 in
+    let P = back10 .before .before .before .place-of .result in
+    let small = back10 .before .before .before .place-of .ensures .1 in
+    let a = back5 .before .before .before .before .lengths-below2 .ensures .0 in
+    let e = back10 .before .lengths-below .ensures .0 in
     let l = lengths-most ws P 64 small in
     let n = ap (lengthsBelow ws) (one-more P) ∙ lengths-next ws P in
     let b = c .before .before .before .write-packet .ensures .below (lengthsAt + P) (omega arith) ∙
-    c .before .before .before .before .before .before .before .move-up .ensures .below (lengthsAt + P) (omega arith) in
+    back5 .before .before .move-up .ensures .below (lengthsAt + P) (omega arith) in
     record { fits = omega (arith, s .pre .2) }
 
 add-ws-3 : tie.Need-add-ws-3
@@ -102,32 +106,34 @@ slice-write-ws : tie.Need-slice-write-ws
 slice-write-ws c = search needs
 
 same-length : tie.Need-same-length
-same-length c = simp length-set (c .before .before .before .write-packet .kept .0 ∙
-    c .before .before .before .before .before .before .before .move-up .kept .0)
+same-length c =
+    let back5 = c .before .before .before .before .before in
+    simp length-set (c .before .before .before .write-packet .kept .0 ∙
+    back5 .before .before .move-up .kept .0)
 
 returns : tie.Need-returns
 unfolding contents
 returns c =
-    let s = c .before .before .before .before .before .before .before .before .before .before .before .before .before .before .before
-    .before in
+    let back5 = c .before .before .before .before .before in
+    let back10 = back5 .before .before .before .before .before in
+    let back15 = back10 .before .before .before .before .before in
+    let s = back15 .before in
     let ws = s .args .ws .now in
     let k = s .pre .0 in
-    let P = c .before .before .before .before .before .before .before .before .before .before .before .before .before .place-of .result in
-    let small = c .before .before .before .before .before .before .before .before .before .before .before .before .before .place-of .ensures
-    .1 in
-    let a = c .before .before .before .before .before .before .before .before .before .lengths-below2 .ensures .0 in
-    let e = c .before .before .before .before .before .before .before .before .before .before .before .lengths-below .ensures .0 in
+    let P = back10 .before .before .before .place-of .result in
+    let small = back10 .before .before .before .place-of .ensures .1 in
+    let a = back5 .before .before .before .before .lengths-below2 .ensures .0 in
+    let e = back10 .before .lengths-below .ensures .0 in
     let l = lengths-most ws P 64 small in
     let g = s .args in
-    let q = c .before .before .before .before .before .before .before .before .before .before .before .before .before .place-of .ensures .0
+    let q = back10 .before .before .before .place-of .ensures .0
     in
     let placed = c .before .before .before .write-packet .last .0 in
-    rw q (joined-become ws (c .before .before .before .before .before .before .before .move-up .last .0) placed (g .tag) (g .p)
-    k (s .pre .1) (s .pre .2) (packetsAt + 4 * c .before .before .before .before .before .before .before .before .before .lengths-below2
-    .result) (packetsAt + 4 * c .before .before .before .before .before .before .before .before .before .before .before .lengths-below
-    .result) (word placed (lengthsAt + placeOf (turnsAt ws) (g .tag)) + 1)
+    rw q (joined-become ws (back5 .before .before .move-up .last .0) placed (g .tag) (g .p)
+    k (s .pre .1) (s .pre .2) (packetsAt + 4 * back5 .before .before .before .before .lengths-below2
+    .result) (packetsAt + 4 * back10 .before .lengths-below .result) (word placed (lengthsAt + placeOf (turnsAt ws) (g .tag)) + 1)
     (ap (λ m. packetsAt + 4 * m) a ∙ ap (λ m. packetsAt + 4 * lengthsBelow ws (m + 1)) q) (ap (λ m. packetsAt + 4 * m) e)
-    (c .before .before .before .before .before .before .before .move-up .ensures) (c .before .before .before .write-packet .ensures) refl)
+    (back5 .before .before .move-up .ensures) (c .before .before .before .write-packet .ensures) refl)
 
 pub join-spec : {M : Type 1} → statement M
 join-spec =

@@ -41,17 +41,20 @@ read-packet-requires c κs =
 behead-requires : tie.Need-behead-requires
 unfolding contents
 behead-requires c κs =
-    let s = c .before .before .before .before .before .before .before in
+    let back5 = c .before .before .before .before .before in
+    let s = back5 .before .before in
     let k = head-facts (s .args .ws .now) (s .args .tag) (s .pre .0) (s .pre .1) (s .pre .2) in
     (k .fitting, s .pre .2, k .waits)
 
 write-link-requires : tie.Need-write-link-requires
 unfolding contents
 write-link-requires c κs =
-    let s = c .before .before .before .before .before .before .before .before .before .before .before in
+    let back5 = c .before .before .before .before .before in
+    let back10 = back5 .before .before .before .before .before in
+    let s = back10 .before in
     let ws = s .args .ws .now in
-    let place = c .before .before .before .before .before .before .before .before .place-of in
-    let below = c .before .before .before .before .before .before .before .lengths-below in
+    let place = back5 .before .before .before .place-of in
+    let below = back5 .before .before .lengths-below in
     let head = c .before .before .before .before .before .read-packet in
     let k = head-facts ws (s .args .tag) (s .pre .0) (s .pre .1) (s .pre .2) in
     let a = head-at ws (s .args .tag) (place .result) (below .result) (place .ensures .0) (below .ensures .0) in
@@ -64,12 +67,14 @@ same-length c = search needs
 returns : tie.Need-returns
 unfolding contents
 returns c =
-    let s = c .before .before .before .before .before .before .before .before .before .before .before .before .before .before in
+    let back5 = c .before .before .before .before .before in
+    let back10 = back5 .before .before .before .before .before in
+    let s = back10 .before .before .before .before in
     let ws = s .args .ws .now in
-    let place = c .before .before .before .before .before .before .before .before .before .before .before .place-of in
-    let below = c .before .before .before .before .before .before .before .before .before .before .lengths-below in
-    let head = c .before .before .before .before .before .before .before .before .read-packet in
-    let cut = c .before .before .before .before .before .before .behead in
+    let place = back10 .before .place-of in
+    let below = back10 .lengths-below in
+    let head = back5 .before .before .before .read-packet in
+    let cut = back5 .before .behead in
     let a = head-at ws (s .args .tag) (place .result) (below .result) (place .ensures .0) (below .ensures .0) in
     loaded-become ws (cut .last .0) (c .before .before .write-link .last .0) (s .args .tag) (head .result) (s .pre .0) (s .pre .1)
     (s .pre .2)

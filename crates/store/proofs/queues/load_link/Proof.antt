@@ -18,15 +18,18 @@ lowest-tag-requires : tie.Need-lowest-tag-requires
 lowest-tag-requires c κs = sound-fitting (c .before .before .before .before .args .ws .now) (c .before .before .before .before .pre)
 
 largest-factor-requires : tie.Need-largest-factor-requires
-largest-factor-requires c κs = let k = sound-fitting (c .before .before .before .before .before .before .args .ws .now)
-    (c .before .before .before .before .before .before .pre) in (omega (arith, k .enough), k .classes-least, k .classes)
+largest-factor-requires c κs =
+    let back5 = c .before .before .before .before .before in
+    let k = sound-fitting (back5 .before .args .ws .now)
+    (back5 .before .pre) in (omega (arith, k .enough), k .classes-least, k .classes)
 
 same-length : tie.Need-same-length
 same-length c = search needs
 
 returns-2 : tie.Need-returns-2
 returns-2 c =
-    let s = c .before .before .before .before .before .before .before .before in
+    let back5 = c .before .before .before .before .before in
+    let s = back5 .before .before .before in
     let ws = s .args .ws .now in
     idle-become ws (sound-fitting ws (s .pre)) (c .before .before .before .before .before .if1 .left)
     (omega (arith, c .if2 .taken, c .before .largest-factor .ensures .0, c .before .before .before .lowest-tag .ensures .0))
@@ -34,11 +37,12 @@ returns-2 c =
 load-from-requires : tie.Need-load-from-requires
 unfolding contents
 load-from-requires c κs =
-    let s = c .before .before .before .before .before .before .before .before .before in (
+    let back5 = c .before .before .before .before .before in
+    let s = back5 .before .before .before .before in (
       s .pre,
       c .before .before .before .before .lowest-tag .ensures .0,
       omega (arith, c .before .if2 .left, c .before .before .largest-factor .ensures .0),
-      c .before .before .before .before .before .before .if1 .left,
+      back5 .before .if1 .left,
     )
 
 same-length-2 : tie.Need-same-length-2

@@ -44,8 +44,9 @@ waiting-at-requires c κs = (c .before .before .before .before .pre, omega (arit
 returns : tie.Need-returns Inv-loop μ-loop
 unfolding contents
 returns c =
+    let back5 = c .before .before .before .before .before in
     let s = c .before .before .before .loop in
-    let ws = c .before .before .before .before .before .before .args .ws .now in
+    let ws = back5 .before .args .ws .now in
     let f : ℕ → List Packet = λ k. queueAt ws (placeOf (turnsAt ws) k) in
     let n = c .before .before .before .before .largest-factor .result + 1 in
     let w = c .before .waiting-at .ensures ∙ ap length (queue-tagged-at ws (s .tag) (omega (arith, s .inv .1))) in
@@ -61,8 +62,9 @@ loop-less c = omega arith
 loop-again : tie.Need-loop-again Inv-loop μ-loop
 unfolding contents
 loop-again c =
+    let back5 = c .before .before .before .before .before in
     let s = c .before .before .before .loop in
-    let ws = c .before .before .before .before .before .before .args .ws .now in
+    let ws = back5 .before .args .ws .now in
     let f : ℕ → List Packet = λ k. queueAt ws (placeOf (turnsAt ws) k) in
     let n = c .before .before .before .before .largest-factor .result + 1 in
     let w = c .before .waiting-at .ensures ∙ ap length (queue-tagged-at ws (s .tag) (omega (arith, s .inv .1))) in

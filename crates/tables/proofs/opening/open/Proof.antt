@@ -46,9 +46,9 @@ slice-write-ws-2 c = simp length-set (omega (arith, c .before .before .clear .ke
 cast-ws : tie.Need-cast-ws
 unfolding classCount
 cast-ws c =
-    let a = c .before .before .before .before .before .before .before .before .before .args in
-    let e : settingsAllowed (asked (a .d) (a .m) (a .factors .now)) ≡ true =
-    sym (c .before .before .before .before .before .before .settings-allowed .ensures) ∙
+    let back5 = c .before .before .before .before .before in
+    let a = back5 .before .before .before .before .args in
+    let e : settingsAllowed (asked (a .d) (a .m) (a .factors .now)) ≡ true = sym (back5 .before .settings-allowed .ensures) ∙
     not-false _ (c .before .before .before .before .before .if1 .left) in
     record { fits = omega (arith, settings-facts (asked (a .d) (a .m) (a .factors .now)) e .classes-most) }
 
@@ -58,10 +58,11 @@ slice-write-ws-3 c = simp length-set (omega (arith, c .before .before .clear .ke
 write-factors-requires : tie.Need-write-factors-requires
 unfolding classCount
 write-factors-requires c κs =
-    let a = c .before .before .before .before .before .before .before .before .before .before .args in
-    let e : settingsAllowed (asked (a .d) (a .m) (a .factors .now)) ≡ true =
-    sym (c .before .before .before .before .before .before .before .settings-allowed .ensures) ∙
-    not-false _ (c .before .before .before .before .before .before .if1 .left) in
+    let back5 = c .before .before .before .before .before in
+    let back10 = back5 .before .before .before .before .before in
+    let a = back10 .args in
+    let e : settingsAllowed (asked (a .d) (a .m) (a .factors .now)) ≡ true = sym (back5 .before .before .settings-allowed .ensures) ∙
+    not-false _ (back5 .before .if1 .left) in
     simp length-set (omega (
       arith,
       c .before .before .before .clear .kept .0,
@@ -70,20 +71,24 @@ write-factors-requires c κs =
     ))
 
 same-length : tie.Need-same-length
-same-length c = simp length-set at (c .before .before .write-factors .kept .0) ∙
-    c .before .before .before .before .before .before .clear .kept .0
+same-length c =
+    let back5 = c .before .before .before .before .before in
+    simp length-set at (c .before .before .write-factors .kept .0) ∙
+    back5 .before .clear .kept .0
 
 returns-3 : tie.Need-returns-3
 unfolding opened openingAnswer afterOpening classCount
 returns-3 c =
-    let a = c .before .before .before .before .before .before .before .before .before .before .before .before .before .args in
+    let back5 = c .before .before .before .before .before in
+    let back10 = back5 .before .before .before .before .before in
+    let a = back10 .before .before .before .args in
     let s = asked (a .d) (a .m) (a .factors .now) in
-    let e : settingsAllowed s ≡ true = sym (c .before .before .before .before .before .before .before .before .before .before
-    .settings-allowed .ensures) ∙ not-false _ (c .before .before .before .before .before .before .before .before .before .if1 .left) in
+    let e : settingsAllowed s ≡ true = sym (back10
+    .settings-allowed .ensures) ∙ not-false _ (back5 .before .before .before .before .if1 .left) in
     let w = c .before .before .write-factors .ensures ∙
-    opening-writes (a .d) (a .m) (a .factors .now) (a .ws .now) (c .before .before .before .before .before .before .clear .last .0)
-    (settings-facts s e .classes-most) (c .before .before .before .before .before .before .clear .ensures) in
-    simp (e, le-ltb _ _ (c .before .before .before .before .before .before .before .before .if2 .left)) (ap (λ l. (Opened.Done, l)) w)
+    opening-writes (a .d) (a .m) (a .factors .now) (a .ws .now) (back5 .before .clear .last .0)
+    (settings-facts s e .classes-most) (back5 .before .clear .ensures) in
+    simp (e, le-ltb _ _ (back5 .before .before .before .if2 .left)) (ap (λ l. (Opened.Done, l)) w)
 
 pub open-spec : {M : Type 1} → statement M
 open-spec =

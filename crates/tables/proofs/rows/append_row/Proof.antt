@@ -34,7 +34,8 @@ same-length c = search needs
 
 returns : tie.Need-returns
 returns c =
-    let s = c .before .before .before .before .before .before .before in
+    let back5 = c .before .before .before .before .before in
+    let s = back5 .before .before in
     let ws = s .args .ws .now in
     append-become ws (c .before .before .write-row .last .0) _ (rowsAt + 6 * c .before .before .before .wide .result)
     (word ws rowCountAt + 1) (s .pre .0) (s .pre .1) (omega (arith, c .before .before .before .wide .ensures .0))

@@ -71,10 +71,11 @@ shared-slice-read-t27 c = search needs
 returns : tie.Need-returns
 unfolding standingAt
 returns c =
-    let s = c .before .before .before .before .before .before .before .before in
+    let back5 = c .before .before .before .before .before in
+    let s = back5 .before .before .before in
     let ws = s .args .ws .now in
     let n = s .args .n in
-    let w = c .before .before .before .before .before .before .wide .ensures .0 in (
+    let w = back5 .before .wide .ensures .0 in (
       connection-at ws n (s .pre .1) (s .pre .2) ∙ ap (λ m. standingAt ws (rowsAt - 6 + 6 * m) .asked) (sym w),
       allowance-at ws n (s .pre .1) (s .pre .2) ∙ ap (λ m. standingAt ws (rowsAt - 6 + 6 * m) .allowance) (sym w),
     )

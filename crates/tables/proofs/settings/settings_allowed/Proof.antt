@@ -34,13 +34,15 @@ returns-2 c =
 
 returns-3 : tie.Need-returns-3
 returns-3 c =
-    let a = c .before .before .before .before .before .before .args in
+    let back5 = c .before .before .before .before .before in
+    let a = back5 .before .args in
     let e : leb 1 (length (a .factors .now)) ≡ false = lt-leb _ _ (c .if3 .taken) in
     sym (settings-parts (a .d) (a .m) (a .factors .now) ∙ simp (e, and-false))
 
 returns-4 : tie.Need-returns-4
 returns-4 c =
-    let a = c .before .before .before .before .before .before .before .args in
+    let back5 = c .before .before .before .before .before in
+    let a = back5 .before .before .args in
     let e : leb (length (a .factors .now)) 8 ≡ false = lt-leb _ _ (c .if4 .taken) in
     sym (settings-parts (a .d) (a .m) (a .factors .now) ∙ simp (e, and-false))
 
@@ -49,7 +51,8 @@ factors-rise-requires c κs = search needs
 
 returns-5 : tie.Need-returns-5
 returns-5 c =
-    let a = c .before .before .before .before .before .before .before .before .before .args in
+    let back5 = c .before .before .before .before .before in
+    let a = back5 .before .before .before .before .args in
     let e : risingAbove 0 (a .factors .now) ≡ false = sym (c .before .factors-rise .ensures) ∙ not-true _ (c .if5 .taken) in
     sym (settings-parts (a .d) (a .m) (a .factors .now) ∙ simp (e, and-false))
 
@@ -61,25 +64,31 @@ shared-slice-read-last c = search needs
 
 returns-6 : tie.Need-returns-6
 returns-6 c =
-    let a = c .before .before .before .before .before .before .before .before .before .before .before .args in
+    let back5 = c .before .before .before .before .before in
+    let back10 = back5 .before .before .before .before .before in
+    let a = back10 .before .args in
     let e : leb (getD (a .factors .now) (length (a .factors .now) - 1) 0) 63 ≡ false = lt-leb _ _ (c .if6 .taken) in
     sym (settings-parts (a .d) (a .m) (a .factors .now) ∙ simp (e, and-false))
 
 mul-result : tie.Need-mul-result
 mul-result c =
-    let a = c .before .before .before .before .before .before .before .before .before .before .before .args in
-    let f = within-facts 1 (a .d) 256 (sym (c .before .before .before .before .before .before .before .before .before .is-within .ensures) ∙
-    not-false _ (c .before .before .before .before .before .before .before .before .if1 .left)) in
+    let back5 = c .before .before .before .before .before in
+    let back10 = back5 .before .before .before .before .before in
+    let a = back10 .before .args in
+    let f = within-facts 1 (a .d) 256 (sym (back5 .before .before .before .before .is-within .ensures) ∙
+    not-false _ (back5 .before .before .before .if1 .left)) in
     record { fits = omega (arith, mul-le-mul-right (a .d) (c .if6 .left)) }
 
 returns-7 : tie.Need-returns-7
 returns-7 c =
-    let a = c .before .before .before .before .before .before .before .before .before .before .before .args in
+    let back5 = c .before .before .before .before .before in
+    let back10 = back5 .before .before .before .before .before in
+    let a = back10 .before .args in
     let fs = a .factors .now in
-    let e1 : within 1 (a .d) 256 ≡ true = sym (c .before .before .before .before .before .before .before .before .before .is-within
-    .ensures) ∙ not-false _ (c .before .before .before .before .before .before .before .before .if1 .left) in
-    let e2 : within 1 (a .m) 4096 ≡ true = sym (c .before .before .before .before .before .before .before .is-within2 .ensures) ∙
-    not-false _ (c .before .before .before .before .before .before .if2 .left) in
+    let e1 : within 1 (a .d) 256 ≡ true = sym (back5 .before .before .before .before .is-within
+    .ensures) ∙ not-false _ (back5 .before .before .before .if1 .left) in
+    let e2 : within 1 (a .m) 4096 ≡ true = sym (back5 .before .before .is-within2 .ensures) ∙
+    not-false _ (back5 .before .if2 .left) in
     let e3 : leb 1 (length fs) ≡ true = le-leb _ _ (c .before .before .before .before .before .if3 .left) in
     let e4 : leb (length fs) 8 ≡ true = le-leb _ _ (c .before .before .before .before .if4 .left) in
     let e5 : risingAbove 0 fs ≡ true = sym (c .before .before .before .factors-rise .ensures) ∙
