@@ -4,7 +4,7 @@ use mathlib.Core.Path.{_≡_}
 use mathlib.Core.Bool.{true}
 use Rattle.meaning.specs.declared.Connection.{Connection}
 use Rattle.meaning.specs.Numbers.{lastSlot}
-use Rattle.meaning.specs.Envelope.{allowanceKept}
+use Rattle.meaning.specs.Envelope.{conforms, allowanceKept}
 use Rattle.meaning.specs.declared.Allowance.{Allowance}
 
 -- A connection of this burst and period: the envelope uses no more of it.
@@ -19,3 +19,7 @@ pub record Ready (burst period : ℕ) (a : Allowance) (slot : ℕ) : Type 0 wher
   pub period-most : period ≤ 4096
   pub slot-most : slot ≤ lastSlot
   pub kept : allowanceKept (sender burst period) slot a ≡ true
+
+-- What a charge asks: that, and that a packet at this slot conforms.
+abbrev pub Chargeable : ℕ → ℕ → Allowance → ℕ → Type 0
+Chargeable burst period a slot = Ready burst period a slot × (conforms (sender burst period) a slot ≡ true)

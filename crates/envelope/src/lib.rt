@@ -1,9 +1,8 @@
 // The allowance of one connection: does a packet conform, and the charge of an accepted one. Document 01, "Envelope".
 use meaning::Allowance;
 ghost use mathlib.Core.Path.{_≡_};
-ghost use mathlib.Core.Bool.{true};
 ghost use Rattle.meaning.specs.Envelope.{full, refilled, conforms, charged as chargedIs};
-ghost use Rattle.envelope.specs.Record.{sender, Ready};
+ghost use Rattle.envelope.specs.Record.{sender, Ready, Chargeable};
 
 // The allowance of a connection with all its credits.
 pub fn fresh(burst: u32) -> Allowance
@@ -46,7 +45,7 @@ pub fn conforming(burst: u32, period: u32, a: Allowance, slot: u32) -> bool
 
 // The allowance once an accepted packet is charged: one credit less, and from a full allowance the next one comes back after a period.
 pub fn charged(burst: u32, period: u32, a: Allowance, slot: u32) -> Allowance
-    requires { ⌜ Ready burst period a slot × (conforms (sender burst period) a slot ≡ true) ⌝ }
+    requires { ⌜ Chargeable burst period a slot ⌝ }
     ensures { λ r. ⌜ r ≡ chargedIs (sender burst period) a slot ⌝ }
 {
     let now = refill(burst, period, a, slot);
@@ -65,7 +64,7 @@ pub fn charged(burst: u32, period: u32, a: Allowance, slot: u32) -> Allowance
 
 // The allowance is charged where it lies, by an accepted packet.
 pub fn charge(a: &mut Allowance, burst: u32, period: u32, slot: u32)
-    requires { ⌜ Ready burst period (now a) slot × (conforms (sender burst period) (now a) slot ≡ true) ⌝ }
+    requires { ⌜ Chargeable burst period (now a) slot ⌝ }
     ensures { λ _. ⌜ (now (a .exit)) ≡ chargedIs (sender burst period) (now (a .entry)) slot ⌝ }
 {
     *a = charged(burst, period, *a, slot);
@@ -73,7 +72,7 @@ pub fn charge(a: &mut Allowance, burst: u32, period: u32, slot: u32)
 
 // The same for a caller that has the allowance as two numbers: it lies in a local, is lent, and is handed back.
 pub fn charge_record(next: u32, credit: u32, burst: u32, period: u32, slot: u32) -> Allowance
-    requires { ⌜ Ready burst period (record { next = next; credit = credit }) slot × (conforms (sender burst period) (record { next = next; credit = credit }) slot ≡ true) ⌝ }
+    requires { ⌜ Chargeable burst period (record { next = next; credit = credit }) slot ⌝ }
     ensures { λ r. ⌜ r ≡ chargedIs (sender burst period) (record { next = next; credit = credit }) slot ⌝ }
 {
     let mut a = Allowance {

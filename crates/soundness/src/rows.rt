@@ -11,14 +11,13 @@ ghost use mathlib.Core.Path.{_≡_};
 ghost use Prim.Native.Nat.{_+_, _≤_};
 ghost use lib.ListN.{length};
 ghost use Rattle.laws.specs.Tests.{every};
-ghost use Rattle.meaning.specs.Envelope.{allowanceKept};
 ghost use Rattle.words.specs.Places.{word, rowCountAt, boxWords};
 ghost use Rattle.words.specs.Contents.{standingAt, standings};
-ghost use Rattle.words.specs.Tested.{rowKept, rowsTested};
+ghost use Rattle.words.specs.Tested.{rowKept, rowsTested, allowanceInRange};
 
 // The allowance is full, or has fewer credits with the next one back after at most T.
 fn allowance_kept(burst: u32, period: u32, counter: u32, next: u32, credit: u32) -> bool
-    ensures { λ r. ⌜ r ≡ allowanceKept (record { class = 0; longest = 0; burst = burst; period = period }) counter (record { next = next; credit = credit }) ⌝ }
+    ensures { λ r. ⌜ r ≡ allowanceInRange burst period counter (record { next = next; credit = credit }) ⌝ }
 {
     if credit == burst {
         return next == 0;

@@ -16,9 +16,9 @@ use words::places::PACKETS_AT;
 ghost use mathlib.Core.Path.{_≡_};
 ghost use Prim.Native.Nat.{_+_, _≤_, _*_, _<_};
 ghost use lib.ListN.{length};
-ghost use Rattle.words.specs.Places.{word, boxWords, lengthsBelow, startOf, tagOf, lengthsAt};
+ghost use Rattle.words.specs.Places.{boxWords, lengthsBelow, tagOf};
 ghost use Rattle.words.specs.Contents.{turnsAt, queueAt};
-ghost use Rattle.words.specs.Tested.{countsTested, queueFits, queuesTested};
+ghost use Rattle.words.specs.Tested.{countsTested, queueFits, queuesTested, QueueLies};
 ghost use Rattle.words.specs.Sound.{Tables, SoundPromise};
 
 // The counter, the waiting packets and the count of accepted ones are in range.
@@ -42,7 +42,7 @@ fn counts_tested(ws: &[u32]) -> bool
 
 // The queue at this place, which starts at word `at`, fits its tag.
 fn queue_fits(ws: &[u32], place: usize, at: usize) -> bool
-    requires { ⌜ Tables (now ws) × (place < 64) × (at ≡ startOf (now ws) place) × (at + 4 * word (now ws) (lengthsAt + place) ≤ length (now ws)) ⌝ }
+    requires { ⌜ QueueLies (now ws) place at ⌝ }
     ensures { λ r. ⌜ r ≡ queueFits (now (ws .entry)) (tagOf (turnsAt (now (ws .entry))) place) (queueAt (now (ws .entry)) place) ⌝ }
 {
     let turned = turns(ws);

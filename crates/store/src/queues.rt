@@ -15,16 +15,16 @@ use words::places::PACKETS_AT;
 ghost use mathlib.Core.Path.{_≡_};
 ghost use mathlib.Core.Bool.{true};
 ghost use mathlib.Core.List.{[]};
-ghost use Prim.Native.Nat.{_+_, _≤_, _<_, suc};
-ghost use lib.ListN.{length, drop, set, getD};
+ghost use Prim.Native.Nat.{_+_, _≤_, _<_};
+ghost use lib.ListN.{length, getD};
 ghost use Rattle.meaning.specs.Numbers.{largestFactor};
-ghost use Rattle.meaning.specs.Queues.{joinTail, tagZeroWaits};
+ghost use Rattle.meaning.specs.Queues.{tagZeroWaits};
 ghost use Rattle.meaning.specs.Step.{queuesTaken};
-ghost use Rattle.words.specs.Places.{word, lengthsBelow, lengthsAt, placeOf, leftAt};
+ghost use Rattle.words.specs.Places.{lengthsBelow, placeOf};
 ghost use Rattle.words.specs.Contents.{contents, turnsAt};
 ghost use Rattle.words.specs.Sound.{Fitting, soundWords};
-ghost use Rattle.words.specs.Changes.{Become};
-ghost use Rattle.store.specs.StoreChanges.{loadedBox, lowestTag, withQueues};
+ghost use Rattle.words.specs.Changes.{Makes};
+ghost use Rattle.store.specs.StoreChanges.{loadedBox, LowestTag, joinedAt, HeadWaits, beheaded, Loadable};
 
 // The place of the queue with this tag.
 fn place_of(ws: &[u32], tag: usize) -> usize
@@ -45,7 +45,7 @@ pub fn waiting_at(ws: &[u32], tag: usize) -> usize
 // The tag of the lowest-tagged queue that has a packet, or the number of queues where none has.
 pub fn lowest_tag(ws: &[u32]) -> usize
     requires { ⌜ Fitting (now ws) ⌝ }
-    ensures { λ r. ⌜ (r ≡ lowestTag (contents (now (ws .entry)) .queues)) × (r ≤ suc (largestFactor (contents (now (ws .entry)) .settings))) ⌝ }
+    ensures { λ r. ⌜ LowestTag (now (ws .entry)) r ⌝ }
 {
     let count = largest_factor(ws) + 1;
     let mut tag = 0;
@@ -61,7 +61,7 @@ pub fn lowest_tag(ws: &[u32]) -> usize
 // A packet joins the tail of the queue with this tag.
 pub fn join(ws: &mut [u32], tag: usize, p: Packet)
     requires { ⌜ Fitting (now ws) × (tag ≤ largestFactor (contents (now ws) .settings)) × (lengthsBelow (now ws) 64 < 1024) ⌝ }
-    ensures { λ _. ⌜ Become (now (ws .entry)) (now (ws .exit)) (withQueues (contents (now (ws .entry))) (joinTail tag p (contents (now (ws .entry)) .queues))) ⌝ }
+    ensures { λ _. ⌜ Makes (joinedAt tag p) (now (ws .entry)) (now (ws .exit)) ⌝ }
 {
     let place = place_of(ws, tag);
     let end = PACKETS_AT + 4 * lengths_below(ws, 64);
@@ -73,8 +73,8 @@ pub fn join(ws: &mut [u32], tag: usize, p: Packet)
 
 // The head of the queue with this tag is taken away.
 fn behead(ws: &mut [u32], tag: usize)
-    requires { ⌜ Fitting (now ws) × (tag ≤ largestFactor (contents (now ws) .settings)) × (1 ≤ word (now ws) (lengthsAt + placeOf (turnsAt (now ws)) tag)) ⌝ }
-    ensures { λ _. ⌜ Become (now (ws .entry)) (now (ws .exit)) (withQueues (contents (now (ws .entry))) (set (contents (now (ws .entry)) .queues) tag (drop 1 (getD (contents (now (ws .entry)) .queues) tag [])))) ⌝ }
+    requires { ⌜ HeadWaits (now ws) tag ⌝ }
+    ensures { λ _. ⌜ Makes (beheaded tag) (now (ws .entry)) (now (ws .exit)) ⌝ }
 {
     let place = place_of(ws, tag);
     let end = PACKETS_AT + 4 * lengths_below(ws, 64);
@@ -97,8 +97,8 @@ pub fn tag_zero_waits(ws: &[u32]) -> bool
 
 // The head of the queue with this tag goes onto the link.
 fn load_from(ws: &mut [u32], tag: usize)
-    requires { ⌜ (soundWords (now ws) ≡ true) × (tag ≡ lowestTag (contents (now ws) .queues)) × (tag ≤ largestFactor (contents (now ws) .settings)) × (word (now ws) leftAt ≡ 0) ⌝ }
-    ensures { λ _. ⌜ Become (now (ws .entry)) (now (ws .exit)) (loadedBox (contents (now (ws .entry)))) ⌝ }
+    requires { ⌜ Loadable (now ws) tag ⌝ }
+    ensures { λ _. ⌜ Makes loadedBox (now (ws .entry)) (now (ws .exit)) ⌝ }
 {
     let at = PACKETS_AT + 4 * lengths_below(ws, place_of(ws, tag));
     let head = read_packet(ws, at);
@@ -109,7 +109,7 @@ fn load_from(ws: &mut [u32], tag: usize)
 // If the link is free, the head of the lowest-tagged queue that has a packet goes onto it.
 pub fn load_link(ws: &mut [u32])
     requires { ⌜ soundWords (now ws) ≡ true ⌝ }
-    ensures { λ _. ⌜ Become (now (ws .entry)) (now (ws .exit)) (loadedBox (contents (now (ws .entry)))) ⌝ }
+    ensures { λ _. ⌜ Makes loadedBox (now (ws .entry)) (now (ws .exit)) ⌝ }
 {
     if ws[LEFT_AT] != 0 {
         return;

@@ -1,12 +1,12 @@
 -- Opening a box in lent words.
-use Prim.Native.Nat.{ℕ}
+use Prim.Native.Nat.{ℕ, _+_}
 use mathlib.Core.Path.{_≡_}
 use mathlib.Core.List.{List, _++_}
-use lib.ListN.{length, drop, replicate}
+use lib.ListN.{length, take, drop, replicate}
 use Rattle.meaning.specs.declared.Opened.{Opened}
 use Rattle.meaning.specs.Numbers.{Settings}
 use Rattle.meaning.specs.Calls.{openingAnswer, newBox}
-use Rattle.words.specs.Places.{boxWords}
+use Rattle.words.specs.Places.{factorsAt, boxWords}
 use Rattle.words.specs.Contents.{put}
 
 -- The settings that a box is opened with.
@@ -16,6 +16,10 @@ asked D M fs = record { interval = D; cycle = M; factors = fs }
 -- The words with the first n of them 0.
 unfoldable pub cleared : ℕ → List ℕ → List ℕ
 cleared n ws = replicate n 0 ++ drop n ws
+
+-- The words with these factors at their places.
+abbrev pub factorsPut : List ℕ → List ℕ → List ℕ
+factorsPut fs ws = take factorsAt ws ++ fs ++ drop (factorsAt + length fs) ws
 
 -- The words after an opening: those of a new box, or as they were where it is refused.
 unfoldable pub afterOpening : Settings → List ℕ → Opened → List ℕ

@@ -1,14 +1,17 @@
 -- What the writers of the tables do to sound words, said of their contents.
-use Prim.Native.Nat.{ℕ, suc, _+_, _≤_, _<_}
+use Prim.Native.Nat.{ℕ, suc, _+_, _-_, _≤_, _<_}
 use mathlib.Core.Path.{_≡_}
-use mathlib.Core.Bool.{cond}
-use mathlib.Core.List.{List}
-use lib.ListN.{length}
-use Rattle.meaning.specs.Queues.{turnAt, turned}
+use mathlib.Core.Bool.{true, false, cond}
+use mathlib.Core.List.{List, [], _∷_, _++_}
+use lib.ListN.{length, set}
+use Rattle.meaning.specs.Queues.{tagZeroWaits, turnAt, turned}
+use Rattle.meaning.specs.declared.Allowance.{Allowance}
 use Rattle.meaning.specs.declared.Standing.{Standing}
-use Rattle.meaning.specs.Box.{Box, Link}
-use Rattle.words.specs.Places.{word}
-use Rattle.words.specs.Contents.{standingAt}
+use Rattle.meaning.specs.Box.{Box, Link, connection}
+use Rattle.meaning.specs.Calls.{allowance, withStanding}
+use Rattle.words.specs.Places.{word, intervalAt, counterAt}
+use Rattle.words.specs.Contents.{contents, standingAt}
+use Rattle.words.specs.Sound.{Fitting}
 
 -- The box with this link.
 unfoldable pub withLink : Box → Link → Box
@@ -64,3 +67,26 @@ pub record RowPut (ws after : List ℕ) (at : ℕ) (s : Standing) : Type 0 where
   pub row : standingAt after at ≡ s
   pub below : (i : ℕ) → i < at → word after i ≡ word ws i
   pub above : (i : ℕ) → at + 6 ≤ i → word after i ≡ word ws i
+
+-- The box with one more packet counted as accepted.
+abbrev pub countedMore : Box → Box
+countedMore box = withAccepted box (suc (box .accepted))
+
+-- The box with this allowance of the connection with this number.
+abbrev pub withAllowance : ℕ → Allowance → Box → Box
+withAllowance n a box = withStanding box (set (box .standing) (n - 1) (record { asked = connection box n; allowance = a }))
+
+-- The box with one connection more.
+abbrev pub withRow : Standing → Box → Box
+withRow row box = withStanding box (box .standing ++ (row ∷ []))
+
+-- What raising the counter asks: it does not wrap, and where the queues turn tag 0 has no packet.
+abbrev pub Raisable : List ℕ → Type 0
+Raisable ws =
+    Fitting ws ×
+    (word ws counterAt < 4294967295) ×
+    (turnAt (word ws intervalAt) (suc (word ws counterAt)) ≡ true → tagZeroWaits (contents ws .queues) ≡ false)
+
+-- The row of the connection with this number.
+abbrev pub RowOf : List ℕ → ℕ → Standing → Type 0
+RowOf ws n row = (connection (contents ws) n ≡ row .asked) × (allowance (contents ws) n ≡ row .allowance)

@@ -2,16 +2,14 @@
 use words::places::ACCEPTED_AT;
 use words::places::COUNTER_AT;
 ghost use mathlib.Core.Path.{_≡_};
-ghost use mathlib.Core.Bool.{true, false};
-ghost use Prim.Native.Nat.{_<_, suc};
+ghost use Prim.Native.Nat.{_<_};
 ghost use lib.ListN.{length};
 ghost use Rattle.meaning.specs.Box.{waiting};
-ghost use Rattle.meaning.specs.Queues.{tagZeroWaits, turnAt};
-ghost use Rattle.words.specs.Places.{word, intervalAt, counterAt, acceptedAt};
+ghost use Rattle.words.specs.Places.{word, acceptedAt};
 ghost use Rattle.words.specs.Contents.{contents};
 ghost use Rattle.words.specs.Sound.{Fitting};
-ghost use Rattle.words.specs.Changes.{Become};
-ghost use Rattle.tables.specs.TableChanges.{raised, withAccepted, withCounter};
+ghost use Rattle.words.specs.Changes.{Become, Makes};
+ghost use Rattle.tables.specs.TableChanges.{raised, withCounter, countedMore, Raisable};
 
 // The slot counter.
 pub fn counter(ws: &[u32]) -> u32
@@ -32,14 +30,14 @@ pub fn accepted(ws: &[u32]) -> u32
 // One more packet is counted as accepted.
 pub fn count_accepted(ws: &mut [u32])
     requires { ⌜ Fitting (now ws) × (word (now ws) acceptedAt < 4294967295) ⌝ }
-    ensures { λ _. ⌜ Become (now (ws .entry)) (now (ws .exit)) (withAccepted (contents (now (ws .entry))) (suc (contents (now (ws .entry)) .accepted))) ⌝ }
+    ensures { λ _. ⌜ Makes countedMore (now (ws .entry)) (now (ws .exit)) ⌝ }
 {
     ws[ACCEPTED_AT] = ws[ACCEPTED_AT] + 1;
 }
 
 // The counter is raised, and the queues are turned if due: no word of a queue changes.
 pub fn raise_counter(ws: &mut [u32])
-    requires { ⌜ Fitting (now ws) × (word (now ws) counterAt < 4294967295) × (turnAt (word (now ws) intervalAt) (suc (word (now ws) counterAt)) ≡ true → tagZeroWaits (contents (now ws) .queues) ≡ false) ⌝ }
+    requires { ⌜ Raisable (now ws) ⌝ }
     ensures { λ _. ⌜ Become (now (ws .entry)) (now (ws .exit)) (raised (contents (now (ws .entry)))) ⌝ }
 {
     ws[COUNTER_AT] = ws[COUNTER_AT] + 1;

@@ -8,11 +8,10 @@ use words::places::FACTORS_AT;
 use words::places::INTERVAL_AT;
 use words::places::PACKETS_AT;
 ghost use mathlib.Core.Path.{_≡_};
-ghost use mathlib.Core.List.{_++_};
 ghost use Prim.Native.Nat.{_+_, _≤_};
-ghost use lib.ListN.{length, take, drop};
+ghost use lib.ListN.{length};
 ghost use Rattle.words.specs.Places.{factorsAt};
-ghost use Rattle.tables.specs.Opening.{cleared, OpenPromise};
+ghost use Rattle.tables.specs.Opening.{cleared, OpenPromise, factorsPut};
 
 // The first n words become 0.
 fn clear(ws: &mut [u32], n: usize)
@@ -29,7 +28,7 @@ fn clear(ws: &mut [u32], n: usize)
 // The factors stand from word 3 on.
 fn write_factors(ws: &mut [u32], factors: &[u32])
     requires { ⌜ factorsAt + length (now factors) ≤ length (now ws) ⌝ }
-    ensures { λ _. ⌜ now (ws .exit) ≡ take factorsAt (now (ws .entry)) ++ now (factors .entry) ++ drop (factorsAt + length (now (factors .entry))) (now (ws .entry)) ⌝ }
+    ensures { λ _. ⌜ now (ws .exit) ≡ factorsPut (now (factors .entry)) (now (ws .entry)) ⌝ }
 {
     let mut i = 0;
     while i < factors.len() {

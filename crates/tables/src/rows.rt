@@ -7,17 +7,15 @@ use words::places::ROW_COUNT_AT;
 use words::places::ROWS_AT;
 use words::places::ROWS_BEFORE;
 ghost use mathlib.Core.Path.{_≡_};
-ghost use mathlib.Core.List.{_++_, [], _∷_};
-ghost use Prim.Native.Nat.{_+_, _≤_, _-_, _<_};
-ghost use lib.ListN.{length, set};
-ghost use Rattle.meaning.specs.Box.{connection};
-ghost use Rattle.meaning.specs.Calls.{allowance, withStanding};
+ghost use Prim.Native.Nat.{_+_, _≤_, _<_};
+ghost use lib.ListN.{length};
+ghost use Rattle.meaning.specs.Calls.{allowance};
 ghost use Rattle.words.specs.Places.{word, rowCountAt};
 ghost use Rattle.words.specs.Contents.{askedAt, contents};
 ghost use Rattle.words.specs.Sound.{Fitting};
 ghost use Rattle.tables.specs.Opening.{asked};
-ghost use Rattle.words.specs.Changes.{Become};
-ghost use Rattle.tables.specs.TableChanges.{RowPut};
+ghost use Rattle.words.specs.Changes.{Makes};
+ghost use Rattle.tables.specs.TableChanges.{RowPut, RowOf, withAllowance, withRow};
 
 // How many connections stand.
 pub fn standing_count(ws: &[u32]) -> u32
@@ -30,7 +28,7 @@ pub fn standing_count(ws: &[u32]) -> u32
 // The row of the connection with this number.
 pub fn read_row(ws: &[u32], n: u32) -> Standing
     requires { ⌜ Fitting (now ws) × (1 ≤ n) × (n ≤ word (now ws) rowCountAt) ⌝ }
-    ensures { λ r. ⌜ (connection (contents (now (ws .entry))) n ≡ r .asked) × (allowance (contents (now (ws .entry))) n ≡ r .allowance) ⌝ }
+    ensures { λ r. ⌜ RowOf (now (ws .entry)) n r ⌝ }
 {
     let at = ROWS_BEFORE + 6 * wide(n);
     Standing {
@@ -64,7 +62,7 @@ pub fn asked_at(ws: &[u32], i: usize) -> Connection
 // The allowance of the connection with this number is written.
 pub fn write_allowance(ws: &mut [u32], n: u32, next: u32, credit: u32)
     requires { ⌜ Fitting (now ws) × (1 ≤ n) × (n ≤ word (now ws) rowCountAt) ⌝ }
-    ensures { λ _. ⌜ Become (now (ws .entry)) (now (ws .exit)) (withStanding (contents (now (ws .entry))) (set (contents (now (ws .entry)) .standing) (n - 1) (record { asked = connection (contents (now (ws .entry))) n; allowance = record { next = next; credit = credit } }))) ⌝ }
+    ensures { λ _. ⌜ Makes (withAllowance n (record { next = next; credit = credit })) (now (ws .entry)) (now (ws .exit)) ⌝ }
 {
     let at = ROWS_BEFORE + 6 * wide(n);
     ws[at + 4] = next;
@@ -87,7 +85,7 @@ fn write_row(ws: &mut [u32], at: usize, row: Standing)
 // A connection more stands.
 pub fn append_row(ws: &mut [u32], row: Standing)
     requires { ⌜ Fitting (now ws) × (word (now ws) rowCountAt < 32) ⌝ }
-    ensures { λ _. ⌜ Become (now (ws .entry)) (now (ws .exit)) (withStanding (contents (now (ws .entry))) (contents (now (ws .entry)) .standing ++ (row ∷ []))) ⌝ }
+    ensures { λ _. ⌜ Makes (withRow row) (now (ws .entry)) (now (ws .exit)) ⌝ }
 {
     let count = ws[ROW_COUNT_AT];
     write_row(ws, ROWS_AT + 6 * wide(count), row);

@@ -16,6 +16,10 @@ pub record Become (ws after : List ℕ) (box : Box) : Type 0 where
   pub same-length : length after ≡ length ws
   pub beyond : (i : ℕ) → packetsAt + 4 * lengthsBelow after 64 ≤ i → word after i ≡ word ws i
 
+-- The words become those of the box that a change makes of their contents.
+abbrev pub Makes : (Box → Box) → List ℕ → List ℕ → Type 0
+Makes change entry exit = Become entry exit (change (contents entry))
+
 -- A packet stands at word `at`, and the other words are as they were.
 pub record PacketPut (ws after : List ℕ) (at : ℕ) (p : Packet) : Type 0 where
   pub same-length : length after ≡ length ws

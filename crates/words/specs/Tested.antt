@@ -1,5 +1,6 @@
 -- The test of soundness part by part, in the order in which the code asks.
-use Prim.Native.Nat.{ℕ, _+_, _-_, _*_}
+use Prim.Native.Nat.{ℕ, _+_, _-_, _*_, _≤_, _<_}
+use mathlib.Core.Path.{_≡_}
 use mathlib.Core.Bool.{Bool, true, _&&_, cond}
 use mathlib.Core.List.{List, [], _∷_}
 use lib.ListN.{length}
@@ -7,12 +8,13 @@ use lib.Dec.{leb, ltb, eqb}
 use Rattle.laws.specs.Tests.{every, everyBelow}
 use Rattle.meaning.specs.Numbers.{largestFactor, settingsAllowed, connectionAllowed, mostConnections, mostWaiting, lastSlot}
 use Rattle.meaning.specs.Envelope.{allowanceKept}
+use Rattle.meaning.specs.declared.Allowance.{Allowance}
 use Rattle.meaning.specs.declared.Packet.{Packet}
 use Rattle.meaning.specs.declared.Standing.{Standing}
 use Rattle.meaning.specs.Box.{Box, packetKept, rankIn}
-use Rattle.words.specs.Places.{boxWords, word, lengthsBelow, tagOf, classesAt, factorsAt, rowCountAt, rowsAt, counterAt, acceptedAt, leftAt, linkAt, lengthsAt}
+use Rattle.words.specs.Places.{boxWords, word, lengthsBelow, startOf, tagOf, classesAt, factorsAt, rowCountAt, rowsAt, counterAt, acceptedAt, leftAt, linkAt, lengthsAt}
 use Rattle.words.specs.Contents.{contents, settingsAt, standings, packetAt, turnsAt, queueAt}
-use Rattle.words.specs.Sound.{zeros}
+use Rattle.words.specs.Sound.{zeros, Tables}
 
 -- The settings are allowed, and the factors that are not used are 0.
 unfoldable pub settingsTested : List ℕ → Bool
@@ -64,3 +66,12 @@ queuesTested ws = everyBelow (λ p. queueFits ws (tagOf (turnsAt ws) p) (queueAt
 unfoldable pub tested : List ℕ → Bool
 tested ws =
     leb boxWords (length ws) && settingsTested ws && rowsTested ws && countsTested ws && linkTested ws && queuesTested ws
+
+-- The queue at this place starts at word `at` and lies within the words.
+abbrev pub QueueLies : List ℕ → ℕ → ℕ → Type 0
+QueueLies ws place at =
+    Tables ws × (place < 64) × (at ≡ startOf ws place) × (at + 4 * word ws (lengthsAt + place) ≤ length ws)
+
+-- The allowance of a connection with this burst and period is in its range.
+abbrev pub allowanceInRange : ℕ → ℕ → ℕ → Allowance → Bool
+allowanceInRange burst period counter a = allowanceKept (record { class = 0; longest = 0; burst = burst; period = period }) counter a

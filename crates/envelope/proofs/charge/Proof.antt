@@ -42,7 +42,8 @@ use denote.Triple.Walked.{says, needs, Stays, stay-ref, stay-none, walkOf, AllGo
 use denote.Exit.{yes}
 use denote.Triple.Clauses.{ensured, lasts}
 use Rattle.meaning.specs.declared.Allowance.{Allowance}
-use Rattle.envelope.proofs.Charges.{Asks, Says}
+use Rattle.envelope.specs.Record.{Chargeable}
+use Rattle.envelope.proofs.Charges.{Says}
 use Rattle.meaning.proofs.Allowance as T
 use Rattle.meaning.proofs.Allowance.Laws as T′
 use Rattle.envelope.proofs.charged as charged
@@ -66,7 +67,7 @@ Charged 𝓤 H A at-mem run = tripleOf 𝓤 H A charged.signature (charged.spec 
 
 module _ {M : Type 1} (𝓤 : URA M) (H : Heap 𝓤) (A : Atoms 𝓤) (W : Given 𝓤 H A) (at-mem : Memory → SProp 𝓤) (run : Routine → Fun 𝓤) (κ : Lft)
     (q : Share) (b o : ℕ) (γ : GName) (h : Allowance) (burst period slot : ℕ)
-    (burst-fits : burst < 2 ^ 32) (period-fits : period < 2 ^ 32) (slot-fits : slot < 2 ^ 32) (asks : Asks burst period h slot) where
+    (burst-fits : burst < 2 ^ 32) (period-fits : period < 2 ^ 32) (slot-fits : slot < 2 ^ 32) (asks : Chargeable burst period h slot) where
   abbrev Arg : Type 0
   Arg = RefT Allowance × (ℕ × (ℕ × (ℕ × Unit {0})))
 
@@ -164,7 +165,7 @@ module _ {M : Type 1} (𝓤 : URA M) (H : Heap 𝓤) (A : Atoms 𝓤) (W : Given
   charge-walks C Λ fm known = walked 𝓤 H A charge.ended stayed (charge.clauses 𝓤 H A at-mem run) (WpFn 𝓤 H C Λ code.function)
       (λ κs. (ptr-vals, (uint-vals w32, (uint-vals w32, (uint-vals w32, tt)))))
       (λ κs. (mut-tells (named 0) (κs .0) T.the-row, (uint-tells w32, (uint-tells w32, (uint-tells w32, tt)))))
-      (λ κs qs bounds a g are. needs 𝓤 (Asks (a .1 .0) (a .1 .1 .0) (a .0 .now) (a .1 .1 .1 .0)) _ (λ asks.
+      (λ κs qs bounds a g are. needs 𝓤 (Chargeable (a .1 .0) (a .1 .1 .0) (a .0 .now) (a .1 .1 .1 .0)) _ (λ asks.
       walk 𝓤 H A W at-mem run (κs .0) (qs .0) (a .0 .ptr .0) (a .0 .ptr .1) (a .0 .name) (a .0 .now) (a .1 .0) (a .1 .1 .0) (a .1 .1 .1 .0)
       (are .1 .0 .1) (are .1 .1 .0 .1) (are .1 .1 .1 .0 .1) asks C Λ fm known))
 

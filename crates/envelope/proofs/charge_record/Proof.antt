@@ -45,7 +45,8 @@ use denote.Triple.Walked.{says, needs, Stays, stay-none, walkOf, AllGo, goes-non
 use denote.Exit.{yes}
 use denote.Triple.Clauses.{ensured, lasts}
 use Rattle.meaning.specs.declared.Allowance.{Allowance}
-use Rattle.envelope.proofs.Charges.{Asks, Says}
+use Rattle.envelope.specs.Record.{Chargeable}
+use Rattle.envelope.proofs.Charges.{Says}
 use Rattle.meaning.proofs.Allowance as T
 use Rattle.meaning.proofs.Allowance.Laws as T′
 use Rattle.envelope.proofs.charge as charge
@@ -142,7 +143,7 @@ module _ {M : Type 1} (𝓤 : URA M) (H : Heap 𝓤) (A : Atoms 𝓤) (W : Given
     tt,
   )
 
-  goes-charge : Asks burst period h slot → (ν l : ℕ) (δ : GName)
+  goes-charge : Chargeable burst period h slot → (ν l : ℕ) (δ : GName)
       → ent 𝓤 (sep 𝓤 (A .lft (ν ∷ []) fullShare) (sem 𝓤 H A (MutRef (named 0) (ν ∷ []) T.the-row .own (lent l δ) (vptr l 0 ∷ []))))
       (Charge 𝓤 H A at-mem run .pre (to-charge ν l δ))
   goes-charge asks ν l δ =
@@ -155,7 +156,7 @@ module _ {M : Type 1} (𝓤 : URA M) (H : Heap 𝓤) (A : Atoms 𝓤) (W : Given
 
   module _ (C : Calls 𝓤 H) (Λ : Loops 𝓤 H) (fm : FmC 𝓤 H (W .laws) C)
       (known : Triple 𝓤 (C #envelope·charge) (Charge 𝓤 H A at-mem run)) where
-    walk : Asks burst period h slot → ent 𝓤 (onEntry 𝓤 H A charge-record.signature tt tt x at)
+    walk : Chargeable burst period h slot → ent 𝓤 (onEntry 𝓤 H A charge-record.signature tt tt x at)
         (WpFn 𝓤 H C Λ code.function (vint w32 next ∷ vint w32 credit ∷ vint w32 burst ∷ vint w32 period ∷ vint w32 slot ∷ []) Post)
     walk asks =
         qed W (‵ ftrue ∷ ‵ (owns (u32 ∷ u32 ∷ u32 ∷ u32 ∷ u32 ∷ []) x at) ∷ []) ∵ keep ! [] $ enter ! C Λ code.function
@@ -217,7 +218,7 @@ module _ {M : Type 1} (𝓤 : URA M) (H : Heap 𝓤) (A : Atoms 𝓤) (W : Given
       (WpFn 𝓤 H C Λ code.function)
       (λ κs. (uint-vals w32, (uint-vals w32, (uint-vals w32, (uint-vals w32, (uint-vals w32, tt))))))
       (λ κs. (uint-tells w32, (uint-tells w32, (uint-tells w32, (uint-tells w32, (uint-tells w32, tt))))))
-      (λ κs qs bounds a g are. needs 𝓤 (Asks (a .1 .1 .0) (a .1 .1 .1 .0) (record { next = a .0; credit = a .1 .0 }) (a .1 .1 .1 .1 .0)) _ (
+      (λ κs qs bounds a g are. needs 𝓤 (Chargeable (a .1 .1 .0) (a .1 .1 .1 .0) (record { next = a .0; credit = a .1 .0 }) (a .1 .1 .1 .1 .0)) _ (
       walk 𝓤 H A W at-mem run (a .0) (a .1 .0) (a .1 .1 .0) (a .1 .1 .1 .0) (a .1 .1 .1 .1 .0) (are .0 .1) (are .1 .0 .1) (are .1 .1 .0 .1)
       (are .1 .1 .1 .0 .1) (are .1 .1 .1 .1 .0 .1) C Λ fm known))
 
