@@ -24,35 +24,42 @@ use Rattle.admission.proofs.Tables.{cycle-most}
 unfoldable pub rowsTo : List ℕ → ℕ → List Connection
 rowsTo ws n = map (λ s. s .asked) (series (standingAt ws) 6 rowsAt n)
 
+-- The first n + 1 rows are the first n and row n.
 row-last : (ws : List ℕ) (n : ℕ) → rowsTo ws (suc n) ≡ rowsTo ws n ++ (askedAt ws n ∷ [])
 unfolding rowsTo
 row-last ws n = ap (map (λ (s : Standing). s .asked)) (series-last (standingAt ws) 6 rowsAt n) ∙
     map-append (λ (s : Standing). s .asked) (series (standingAt ws) 6 rowsAt n) (standingAt ws (rowsAt + 6 * n) ∷ [])
 
+-- The first 0 rows are none.
 no-rows : (ws : List ℕ) → rowsTo ws 0 ≡ []
 unfolding rowsTo series
 no-rows ws = refl
 
+-- The set with the newcomer is the rows that stand and the newcomer.
 pub with-asked : (ws : List ℕ) (c : Connection) → withAsked ws c ≡ rowsTo ws (word ws rowCountAt) ++ (c ∷ [])
 unfolding withAsked standings rowsTo
 with-asked ws c = refl
 
 module _ (f : Connection → ℕ) (ws : List ℕ) where
+  -- The sum over one connection more is the sum before and what that one adds.
   sum-one-more : (l : List Connection) (a : Connection) → sumOf f (l ++ (a ∷ [])) ≡ sumOf f l + f a
   unfolding sumOf
   sum-one-more l a = sum-append f l (a ∷ []) ∙ (let z : f a + 0 ≡ f a = omega arith in ap (λ n. sumOf f l + n) z)
 
+  -- The sum over no rows is 0.
   pub sum-none : sumOf f (rowsTo ws 0) ≡ 0
   unfolding sumOf
   sum-none = ap (sumOf f) (no-rows ws)
 
+  -- The sum over one row more is the sum before and what that row adds.
   pub sum-next : (i : ℕ) → sumOf f (rowsTo ws (suc i)) ≡ sumOf f (rowsTo ws i) + f (askedAt ws i)
   sum-next i = ap (sumOf f) (row-last ws i) ∙ sum-one-more (rowsTo ws i) (askedAt ws i)
 
+  -- The sum over the set with the newcomer is the sum over the rows and what the newcomer adds.
   pub sum-with : (c : Connection) → sumOf f (withAsked ws c) ≡ sumOf f (rowsTo ws (word ws rowCountAt)) + f c
   sum-with c = ap (sumOf f) (with-asked ws c) ∙ sum-one-more (rowsTo ws (word ws rowCountAt)) c
 
-  -- the sum over some rows is at most that over more
+  -- The sum over some rows is at most that over more.
   pub sum-partial : (i k : ℕ) → sumOf f (rowsTo ws i) ≤ sumOf f (rowsTo ws (k + i))
   sum-partial i zero = let z : 0 + i ≡ i = omega arith in rw z (omega arith)
   sum-partial i (suc k) =
@@ -61,18 +68,22 @@ module _ (f : Connection → ℕ) (ws : List ℕ) where
       let b = sum-next (k + i) in
       rw z (omega arith)
 
+  -- The largest over one connection more is the larger of the largest before and that one's.
   largest-one-more : (l : List Connection) (a : Connection) → largestOf f (l ++ (a ∷ [])) ≡ max (largestOf f l) (f a)
   unfolding largestOf
   largest-one-more [] a = omega arith
   largest-one-more (b ∷ l) a = let e = largest-one-more l a in rw e (omega arith)
 
+  -- The largest over no rows is 0.
   pub largest-none : largestOf f (rowsTo ws 0) ≡ 0
   unfolding largestOf
   largest-none = ap (largestOf f) (no-rows ws)
 
+  -- The largest over one row more is the larger of the largest before and that row's.
   pub largest-next : (i : ℕ) → largestOf f (rowsTo ws (suc i)) ≡ max (largestOf f (rowsTo ws i)) (f (askedAt ws i))
   largest-next i = ap (largestOf f) (row-last ws i) ∙ largest-one-more (rowsTo ws i) (askedAt ws i)
 
+  -- The largest over the set with the newcomer is the larger of that over the rows and the newcomer's.
   pub largest-with : (c : Connection) → largestOf f (withAsked ws c) ≡ max (largestOf f (rowsTo ws (word ws rowCountAt))) (f c)
   largest-with c = ap (largestOf f) (with-asked ws c) ∙ largest-one-more (rowsTo ws (word ws rowCountAt)) c
 
@@ -80,6 +91,7 @@ module _ (f : Connection → ℕ) (ws : List ℕ) where
 abbrev pub rateTerm : ℕ → Connection → ℕ
 rateTerm cycle c = c .longest * (cycle / c .period)
 
+-- What the set with the newcomer adds with the M in the words is its rate.
 pub rate-is : (ws : List ℕ) (c : Connection) → sumOf (rateTerm (word ws cycleAt)) (withAsked ws c) ≡ rate (settingsAt ws) (withAsked ws c)
 unfolding rate settingsAt
 rate-is ws c = refl
@@ -101,11 +113,13 @@ unfolding largestOf wayTerm
 all-silent set t [] e = refl
 all-silent set t (c ∷ cs) e = let i = all-silent set t cs e in rw (e, i) (omega arith)
 
+-- Where (12) speaks of t, the largest that counts as in the way is the largest s of (12).
 all-speak : (set : Settings) (t : ℕ) (cs : List Connection) → twelveRange set t ≡ true → largestOf (wayTerm set t) cs ≡ inTheWay set cs t
 unfolding largestOf wayTerm inTheWay
 all-speak set t [] e = refl
 all-speak set t (c ∷ cs) e = rw (e, all-speak set t cs e) refl
 
+-- Conditions (11) and (12) hold at t exactly if the sum and the packet in the way are together at most t.
 pub one-test : (set : Settings) (cs : List Connection) (t : ℕ)
     → conditionAt set cs t ≡ leb (sumAt set cs t + largestOf (wayTerm set t) cs) t
 unfolding conditionAt eleven twelve
@@ -127,13 +141,15 @@ one-test set cs t = go (twelveRange set t) refl
         (le-leb (sumAt set cs t) t (omega arith), h)))
 
 module _ (ws : List ℕ) (c : Connection) (t : ℕ) where
+  -- What a connection adds to the sum at t, by the settings in the words.
   abbrev theTerm : Connection → ℕ
   theTerm = term (settingsAt ws) t
 
+  -- What a connection counts for as the packet in the way at t, by the settings in the words.
   abbrev theWay : Connection → ℕ
   theWay = wayTerm (settingsAt ws) t
 
-  -- the condition holds where the sum and the packet in the way are at most t
+  -- The condition holds where the sum and the packet in the way are at most t.
   pub holds-at : theTerm c + sumOf theTerm (rowsTo ws (word ws rowCountAt)) + max (theWay c)
       (largestOf theWay (rowsTo ws (word ws rowCountAt))) ≤ t
       → conditionAt (settingsAt ws) (withAsked ws c) t ≡ true
@@ -145,7 +161,7 @@ module _ (ws : List ℕ) (c : Connection) (t : ℕ) where
       one-test (settingsAt ws) (withAsked ws c) t ∙
       le-leb (sumOf theTerm (withAsked ws c) + largestOf theWay (withAsked ws c)) t (omega arith)
 
-  -- and fails where they exceed t
+  -- The condition fails where the sum and the packet in the way exceed t.
   pub fails-at : t < theTerm c + sumOf theTerm (rowsTo ws (word ws rowCountAt)) + max (theWay c)
       (largestOf theWay (rowsTo ws (word ws rowCountAt)))
       → conditionAt (settingsAt ws) (withAsked ws c) t ≡ false
@@ -157,7 +173,7 @@ module _ (ws : List ℕ) (c : Connection) (t : ℕ) where
       one-test (settingsAt ws) (withAsked ws c) t ∙
       lt-leb (sumOf theTerm (withAsked ws c) + largestOf theWay (withAsked ws c)) t (omega arith)
 
-  -- and fails where the sum over some rows already exceeds t
+  -- The condition fails where the sum over some rows already exceeds t.
   pub fails-early : (i : ℕ) → i ≤ word ws rowCountAt → t < theTerm c + sumOf theTerm (rowsTo ws i)
       → conditionAt (settingsAt ws) (withAsked ws c) t ≡ false
   fails-early i k h =

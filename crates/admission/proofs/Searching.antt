@@ -91,6 +91,7 @@ speaks-range {ws} t k =
     cc
 
 module _ {ws : List ℕ} {c : Connection} {n interval first last end t : ℕ} where
+  -- The inner loop begins with what the newcomer adds and no row added.
   pub begins : Searching ws c n interval first last end t → t < end → {speaks : Bool} {sum way : ℕ}
       → speaks ≡ twelveRange (settingsAt ws) t → (sum ≡ term (settingsAt ws) t c) × (sum ≤ 400000)
       → (way ≡ wayTerm (settingsAt ws) t c) × (way ≤ 64) → Adding ws c n interval first last end t speaks sum way sum way 0
@@ -114,7 +115,7 @@ module _ {ws : List ℕ} {c : Connection} {n interval first last end t : ℕ} wh
 module _ {ws : List ℕ} {c : Connection} {n interval first last end t : ℕ} {speaks : Bool} {sum₀ way₀ sum way i : ℕ}
     (s : Adding ws c n interval first last end t speaks sum₀ way₀ sum way i)
   where
-    -- one row more
+    -- The inner loop goes on with one row more added.
     pub adds : i < n → {r : Connection} {more wider : ℕ} → r ≡ askedAt ws i
         → (more ≡ term (settingsAt ws) t r) × (more ≤ 400000) → (wider ≡ wayTerm (settingsAt ws) t r) × (wider ≤ 64)
         → Adding ws c n interval first last end t speaks sum₀ way₀ (sum + more) (max way wider) (i + 1)
@@ -142,9 +143,11 @@ module _ {ws : List ℕ} {c : Connection} {n interval first last end t : ℕ} {s
           way-most = omega arith;
         }
 
+    -- Where no row is left, as many have been added as stand.
     rows-done : n ≤ i → i ≡ word ws rowCountAt
     rows-done h = let r = s .outer .knows .rows-are in let m = s .i-most in omega arith
 
+    -- Where no row is left, the sum and the packet in the way are those of the set with the newcomer.
     all-added : n ≤ i → (sum ≡ term (settingsAt ws) t c + sumOf (term (settingsAt ws) t) (rowsTo ws (word ws rowCountAt)))
         × (way ≡ max (wayTerm (settingsAt ws) t c) (largestOf (wayTerm (settingsAt ws) t) (rowsTo ws (word ws rowCountAt))))
     all-added h =
@@ -157,10 +160,11 @@ module _ {ws : List ℕ} {c : Connection} {n interval first last end t : ℕ} {s
               ap (λ k. max k (largestOf (wayTerm (settingsAt ws) t) (rowsTo ws (word ws rowCountAt)))) b,
         )
 
-    -- the condition fails at t
+    -- Where no row is left and the sum and the packet in the way exceed t, the condition fails at t.
     pub fails-now : n ≤ i → t < sum + way → conditionAt (settingsAt ws) (withAsked ws c) t ≡ false
     fails-now h l = let e = all-added h in fails-at ws c t (omega arith)
 
+    -- Where the sum exceeds t before all rows are added, the condition fails at t.
     pub fails-before-all : t < sum → conditionAt (settingsAt ws) (withAsked ws c) t ≡ false
     fails-before-all l =
         let r = s .outer .knows .rows-are in
@@ -169,7 +173,7 @@ module _ {ws : List ℕ} {c : Connection} {n interval first last end t : ℕ} {s
         let b = s .sum-is in
         fails-early ws c t i (omega arith) (omega arith)
 
-    -- or holds, and the search goes on
+    -- Where no row is left and they are at most t, the condition holds and the search goes on.
     pub goes-on : n ≤ i → sum + way ≤ t → Searching ws c n interval first last end (t + 1)
     goes-on h l =
         let e = all-added h in
@@ -184,6 +188,7 @@ module _ {ws : List ℕ} {c : Connection} {n interval first last end t : ℕ} {s
         }
 
 module _ {ws : List ℕ} {c : Connection} {n interval first last end t : ℕ} (s : Searching ws c n interval first last end t) where
+  -- The first t at which the condition fails is what the search of document 01 answers.
   pub finds : t < end → conditionAt (settingsAt ws) (withAsked ws c) t ≡ false → failsAt t ≡ finiteSearch (settingsAt ws) (withAsked ws c)
   unfolding finiteSearch
   finds h f =
@@ -191,6 +196,7 @@ module _ {ws : List ℕ} {c : Connection} {n interval first last end t : ℕ} (s
       sym (found-fails (conditionAt (settingsAt ws) (withAsked ws c)) (largestBound (settingsAt ws) + settingsAt ws .cycle) t (omega arith)
       (s .held) f)
 
+  -- Where the search comes to its end, that of document 01 finds no t that fails.
   pub finds-none : end ≤ t → holds ≡ finiteSearch (settingsAt ws) (withAsked ws c)
   unfolding finiteSearch
   finds-none h =

@@ -18,21 +18,26 @@ use Rattle.words.specs.Contents.{askedAt, contents, settingsAt}
 use Rattle.words.proofs.Readings.{interval-word}
 use Rattle.admission.specs.Asking.{Ready, Allowed, Small, wayTerm}
 
+-- The number of classes is the word at its place.
 pub class-count : (ws : List ℕ) → classCount (settingsAt ws) ≡ word ws classesAt
 unfolding classCount settingsAt
 class-count ws = length-series (λ i. word ws i) 1 factorsAt (word ws classesAt)
 
+-- The rotation interval D is the word at its place.
 pub interval-is : (ws : List ℕ) → settingsAt ws .interval ≡ word ws intervalAt
 unfolding settingsAt
 interval-is ws = refl
 
+-- The cycle M is the word at its place.
 pub cycle-is : (ws : List ℕ) → settingsAt ws .cycle ≡ word ws cycleAt
 unfolding settingsAt
 cycle-is ws = refl
 
+-- The settings in ready words keep the table of numbers.
 pub facts : (ws : List ℕ) → Ready ws → SettingsFacts (settingsAt ws)
 facts ws r = settings-facts (settingsAt ws) (r .settings)
 
+-- The bound of every class is at most 1,024.
 pub bound-most : (ws : List ℕ) (k : ℕ) → Ready ws → 1 ≤ k → k ≤ word ws classesAt → bound (settingsAt ws) k ≤ 1024
 unfolding bound largestBound largestFactor
 bound-most ws k r h l =
@@ -42,6 +47,7 @@ bound-most ws k r h l =
     let b = f .bound-most in
     omega arith
 
+-- There are 1 to 8 classes.
 pub classes-within : (ws : List ℕ) → Ready ws → (1 ≤ word ws classesAt) × (word ws classesAt ≤ 8)
 classes-within ws r =
     let f = facts ws r in
@@ -50,15 +56,17 @@ classes-within ws r =
     let b = f .classes-most in
     (omega arith, omega arith)
 
--- the connection's facts, as the code has it
+-- An allowed newcomer keeps the table of numbers.
 pub asked-facts : (ws : List ℕ) (c : Connection) → Allowed ws c → ConnectionFacts (settingsAt ws) c
 asked-facts ws c a = connection-facts (settingsAt ws) c a
 
+-- An allowed newcomer's numbers are small enough for the sums.
 pub asked-small : (ws : List ℕ) (c : Connection) → Allowed ws c → Small c
 asked-small ws c a =
     let f = asked-facts ws c a in
     record { longest-most = f .longest-most; burst-most = f .burst-most; period-least = f .period-least }
 
+-- An allowed newcomer's class is one of the classes.
 pub asked-class : (ws : List ℕ) (c : Connection) → Allowed ws c → (1 ≤ c .class) × (c .class ≤ word ws classesAt)
 asked-class ws c a =
     let f = asked-facts ws c a in
@@ -66,7 +74,7 @@ asked-class ws c a =
     let h = f .class-most in
     (f .class-least, omega arith)
 
--- a product of numbers up to 64 and up to 6,064
+-- A product of numbers up to 64 and up to 6,064 is at most 400,000.
 pub product-most : (s n : ℕ) → s ≤ 64 → n ≤ 6064 → s * n ≤ 400000
 product-most s n h k = let m = mul-le-mul h k in omega arith
 
@@ -92,17 +100,21 @@ pub delayed-none : (E : ℕ → ℕ) (d t : ℕ) → t < d → 0 ≡ delayed E d
 unfolding delayed
 delayed-none E d t h = rw (lt-leb d t h) refl
 
+-- From slot d on, an envelope delayed by d is what it was d slots before.
 pub delayed-some : (E : ℕ → ℕ) (d t : ℕ) → d ≤ t → E (t - d) ≡ delayed E d t
 unfolding delayed
 delayed-some E d t h = rw (le-leb d t h) refl
 
+-- The units s x (b + floor(t/T)) are E(t).
 pub envelope-is : (c : Connection) (t : ℕ) → c .longest * (c .burst + t / c .period) ≡ envelope c t
 unfolding envelope mayHave
 envelope-is c t = refl
 
+-- Within 6,000 slots a connection may have at most 6,064 packets.
 pub count-most : (c : Connection) (d t : ℕ) → Small c → t ≤ 6000 → c .burst + (t - d) / c .period ≤ 6064
 count-most c d t s h = let q = div-le-self (t - d) (c .period) in let b = s .burst-most in omega arith
 
+-- Within 6,000 slots a connection may have at most 400,000 units.
 pub units-most : (c : Connection) (d t : ℕ) → Small c → t ≤ 6000 → c .longest * (c .burst + (t - d) / c .period) ≤ 400000
 units-most c d t s h = product-most (c .longest) (c .burst + (t - d) / c .period) (s .longest-most) (count-most c d t s h)
 
@@ -112,6 +124,7 @@ pub term-first : (ws : List ℕ) (c : Connection) (t : ℕ) → c .class ≡ 1
 unfolding term
 term-first ws c t e = rw (eq-eqb (c .class) 1 e) refl
 
+-- A connection of a class other than 1 adds E(t + D - dq) to the sum.
 pub term-above : (ws : List ℕ) (c : Connection) (t : ℕ) → (c .class ≡ 1 → ⊥)
     → delayed (envelope c) (bound (settingsAt ws) (c .class)) (t + word ws intervalAt) ≡ term (settingsAt ws) t c
 unfolding term settingsAt
@@ -122,12 +135,14 @@ pub way-silent : (ws : List ℕ) (c : Connection) (t : ℕ) → twelveRange (set
 unfolding wayTerm
 way-silent ws c t e = rw e refl
 
+-- Where (12) speaks of t, a connection whose bound exceeds t + D counts with its s as in the way.
 pub way-longest : (ws : List ℕ) (c : Connection) (t : ℕ) → twelveRange (settingsAt ws) t ≡ true
     → t + word ws intervalAt < bound (settingsAt ws) (c .class)
     → c .longest ≡ wayTerm (settingsAt ws) t c
 unfolding wayTerm settingsAt
 way-longest ws c t e h = rw (e, lt-ltb (t + word ws intervalAt) (bound (settingsAt ws) (c .class)) h) refl
 
+-- A connection whose bound is at most t + D has no packet in the way.
 pub way-nothing : (ws : List ℕ) (c : Connection) (t : ℕ) → bound (settingsAt ws) (c .class) ≤ t + word ws intervalAt
     → 0 ≡ wayTerm (settingsAt ws) t c
 unfolding wayTerm settingsAt

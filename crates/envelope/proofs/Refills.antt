@@ -13,12 +13,13 @@ use Rattle.meaning.specs.declared.Allowance.{Allowance}
 use Rattle.envelope.specs.Record.{sender, Ready}
 
 module _ (burst period : ℕ) (a : Allowance) (slot : ℕ) (r : Ready burst period a slot) where
-  -- what the range of an allowance says of its numbers
+  -- What the range of an allowance says of its numbers.
   pub record InRange : Type 0 where
     pub credit-most : a .credit ≤ burst
     pub next-most : a .next ≤ slot + period
     pub not-full : slot < a .next → a .credit < burst
 
+  -- An allowance that the functions are given has its numbers in that range.
   pub in-range : InRange
   in-range = by-number (kept-means (sender burst period) slot a (r .kept) .1)
     where
@@ -32,6 +33,7 @@ module _ (burst period : ℕ) (a : Allowance) (slot : ℕ) (r : Ready burst peri
           let n = u .next-most in
           record { credit-most = omega arith; next-most = omega arith; not-full = λ h. omega arith }
 
+  -- Before the slot of the next credit none has come back, and the allowance stays.
   pub waits : slot < a .next → a ≡ refilled (sender burst period) a slot
   waits h =
       let k = none-back (sender burst period) slot a h in
@@ -46,6 +48,7 @@ module _ (burst period : ℕ) (a : Allowance) (slot : ℕ) (r : Ready burst peri
       credit-same : cameBack (sender burst period) a slot ≡ 0 → a .credit + cameBack (sender burst period) a slot ≡ a .credit
       credit-same k = omega arith
 
+  -- Where as many credits have come back as were missing, the allowance is full.
   pub filled : a .next ≤ slot → burst - a .credit ≤ (slot - a .next) / period + 1
       → full (sender burst 0) ≡ refilled (sender burst period) a slot
   unfolding full
@@ -54,6 +57,7 @@ module _ (burst period : ℕ) (a : Allowance) (slot : ℕ) (r : Ready burst peri
       let c = in-range .credit-most in
       sym (refilled-all (sender burst period) slot a (omega arith))
 
+  -- Where fewer credits have come back than were missing, they are added and `next` moves on by T for each.
   pub fewer : a .next ≤ slot → (slot - a .next) / period + 1 < burst - a .credit
       → refilled (sender burst period) a slot
       ≡ record { next = a .next + ((slot - a .next) / period + 1) * period; credit = a .credit + ((slot - a .next) / period + 1) }
@@ -64,20 +68,24 @@ module _ (burst period : ℕ) (a : Allowance) (slot : ℕ) (r : Ready burst peri
       refilled-some (sender burst period) slot a (omega arith) ∙
       ap (λ b. record { next = a .next + b * period; credit = a .credit + b }) e
 
+  -- The credits that came back move `next` to at most T after this slot.
   pub small : a .next ≤ slot → ((slot - a .next) / period + 1) * period ≤ slot - a .next + period
   small h = let d = div-mul-le-self (slot - a .next) period in omega arith
 
 -- The two ways of a charge, from the refilled allowance.
 module _ (burst period slot : ℕ) (a now : Allowance) (e : now ≡ refilled (sender burst period) a slot) where
+  -- From a full allowance a packet takes one credit, and the next one comes back after T.
   pub charged-full : now .credit ≡ burst → record { next = slot + period; credit = burst - 1 } ≡ charged (sender burst period) a slot
   unfolding charged
   charged-full h = rw (← e, eq-eqb (now .credit) burst h) refl
 
+  -- From an allowance that is not full a packet takes one credit, and `next` stays.
   pub charged-fewer : (now .credit ≡ burst → ⊥) → record { next = now .next; credit = now .credit - 1 }
       ≡ charged (sender burst period) a slot
   unfolding charged
   charged-fewer h = rw (← e, ne-eqb (now .credit) burst h) refl
 
+  -- Where a packet conforms, a credit is left.
   pub credit-left : conforms (sender burst period) a slot ≡ true → 1 ≤ now .credit
   unfolding conforms
   credit-left h = leb-true 1 (now .credit) (ap (λ r. leb 1 (r .credit)) e ∙ h)

@@ -20,10 +20,12 @@ use Rattle.words.proofs.Same.{packet-same, queue-tagged-at}
 use Rattle.store.proofs.QueueLaws.{join-sets}
 use Rattle.store.proofs.Shift.{Shifted, lengths-next, start-is, start-same, total-moved, shifted-become}
 
+-- There are rP + 1 queues.
 queue-count : (ws : List ℕ) → length (contents ws .queues) ≡ suc (largestFactor (settingsAt ws))
 unfolding contents queuesAt
 queue-count ws = length-series (λ k. queueAt ws (placeOf (turnsAt ws) k)) 1 0 (suc (largestFactor (settingsAt ws)))
 
+-- A series of packets without the first is the series from the next packet on.
 tail-series : {A : Type 0} (f : ℕ → A) (start n : ℕ) → drop 1 (series f 4 start (suc n)) ≡ series f 4 (start + 4) n
 unfolding series
 tail-series f start n = refl
@@ -34,16 +36,20 @@ module _ (ws up placed : List ℕ) (tag : ℕ) (p : Packet) (k : Fitting ws) (ta
     (at end v : ℕ) (at-is : at ≡ packetsAt + 4 * lengthsBelow ws (placeOf (turnsAt ws) tag + 1))
     (end-is : end ≡ packetsAt + 4 * lengthsBelow ws 64)
     (u : MovedUp ws up at end) (w : PacketPut up placed at p) (v-is : v ≡ word placed (lengthsAt + placeOf (turnsAt ws) tag) + 1) where
+  -- The place of the tag's queue.
   place : ℕ
   place = placeOf (turnsAt ws) tag
 
+  -- The words once the packet is placed and the length of its queue is stored.
   after : List ℕ
   after = set placed (lengthsAt + place) v
 
+  -- Storing the length changes no word of the packets.
   stored : (i : ℕ) → packetsAt ≤ i → word after i ≡ word placed i
   unfolding after place
   stored i h = word-other placed (lengthsAt + placeOf (turnsAt ws) tag) v i (λ e. omega (arith, place-below (turnsAt ws) tag))
 
+  -- Joining a packet makes its queue one longer and moves the packets of the later places.
   joined-shift : Shifted ws after (placeOf (turnsAt ws) tag) 0 1
   unfolding after place
   joined-shift =
@@ -66,6 +72,7 @@ module _ (ws up placed : List ℕ) (tag : ℕ) (p : Packet) (k : Fitting ws) (ta
             (let q : j ≡ i + 4 = omega arith in ap (λ n. word up n) q) ∙ u .moved i (omega arith) (omega arith);
       })
 
+  -- The queue that was joined has the new packet as its tail.
   joined-queue : queueAt after (placeOf (turnsAt ws) tag) ≡ queueAt ws (placeOf (turnsAt ws) tag) ++ (p ∷ [])
   unfolding queueAt
   joined-queue =
@@ -94,6 +101,7 @@ module _ (ws up placed : List ℕ) (tag : ℕ) (p : Packet) (k : Fitting ws) (ta
       stays : (i : ℕ) → packetsAt ≤ i → i < at → word after i ≡ word ws i
       stays i h l = stored i h ∙ w .below i l ∙ u .below i l
 
+  -- Joining makes the words those of the box with the packet at the tail of its queue.
   pub joined-become : Become ws (set placed (lengthsAt + placeOf (turnsAt ws) tag) v)
       (withQueues (contents ws) (joinTail tag p (contents ws .queues)))
   unfolding after place
@@ -120,13 +128,16 @@ module _ (ws down : List ℕ) (tag : ℕ) (k : Fitting ws) (tagged : tag ≤ lar
     (at end v : ℕ) (at-is : at ≡ packetsAt + 4 * lengthsBelow ws (placeOf (turnsAt ws) tag))
     (end-is : end ≡ packetsAt + 4 * lengthsBelow ws 64)
     (u : MovedDown ws down at end) (v-is : v + 1 ≡ word down (lengthsAt + placeOf (turnsAt ws) tag)) where
+  -- The words once the later packets have moved down and the length of the queue is stored.
   beheaded : List ℕ
   beheaded = set down (lengthsAt + placeOf (turnsAt ws) tag) v
 
+  -- Storing the length changes no word of the packets.
   unstored : (i : ℕ) → packetsAt ≤ i → word beheaded i ≡ word down i
   unfolding beheaded
   unstored i h = word-other down (lengthsAt + placeOf (turnsAt ws) tag) v i (λ e. omega (arith, place-below (turnsAt ws) tag))
 
+  -- Taking a head makes its queue one shorter and moves the packets of the later places.
   behead-shift : Shifted ws beheaded (placeOf (turnsAt ws) tag) 1 0
   unfolding beheaded
   behead-shift =
@@ -145,6 +156,7 @@ module _ (ws down : List ℕ) (tag : ℕ) (k : Fitting ws) (tagged : tag ≤ lar
             (let q : j + 4 ≡ i = omega arith in ap (λ n. word ws n) q);
       })
 
+  -- The queue that was beheaded is what it was without its head.
   behead-queue : queueAt beheaded (placeOf (turnsAt ws) tag) ≡ drop 1 (queueAt ws (placeOf (turnsAt ws) tag))
   unfolding queueAt
   behead-queue =
@@ -164,6 +176,7 @@ module _ (ws down : List ℕ) (tag : ℕ) (k : Fitting ws) (tagged : tag ≤ lar
       (let q : startOf ws P + 4 * i + j + 4 ≡ startOf ws P + 4 + 4 * i + j = omega arith in ap (λ x. word ws x) q))) ∙
       sym (ap (λ x. drop 1 (series (packetAt ws) 4 (startOf ws P) x)) m ∙ tail-series (packetAt ws) (startOf ws P) (n - 1))))
 
+  -- Taking a head makes the words those of the box with the head of that queue gone.
   pub behead-become : Become ws (set down (lengthsAt + placeOf (turnsAt ws) tag) v)
       (withQueues (contents ws) (set (contents ws .queues) tag (drop 1 (getD (contents ws .queues) tag []))))
   unfolding beheaded

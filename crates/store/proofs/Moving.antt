@@ -9,17 +9,19 @@ use Rattle.words.specs.Places.{word}
 use Rattle.store.specs.StoreChanges.{MovedUp, MovedDown}
 use Rattle.words.proofs.Storing.{word-other, word-same}
 
--- the words from i to `to` have moved up
+-- The words from i to `to` have moved four places up; below i + 4 and past the end the words are as they were.
 pub record UpTo (ws after : List ℕ) (to i : ℕ) : Type 0 where
   pub same-length : length after ≡ length ws
   pub below : (j : ℕ) → j < i + 4 → word after j ≡ word ws j
   pub moved : (j : ℕ) → i ≤ j → j < to → word after (j + 4) ≡ word ws j
   pub above : (j : ℕ) → to + 4 ≤ j → word after j ≡ word ws j
 
+-- Before any move upward nothing has changed.
 pub up-start : (ws : List ℕ) (to : ℕ) → UpTo ws ws to to
 up-start ws to =
     record { same-length = refl; below = λ j h. refl; moved = λ j h k. absurd (omega arith); above = λ j h. refl }
 
+-- One store more moves one word more up.
 pub up-next : (ws after : List ℕ) (to i k : ℕ) → i ≡ suc k → k < to → to + 4 ≤ length ws → UpTo ws after to i
     → UpTo ws (set after (k + 4) (word after k)) to k
 up-next ws after to i k e h l u =
@@ -35,6 +37,7 @@ up-next ws after to i k e h l u =
       above = λ j b. word-other after (k + 4) (word after k) j (λ q. omega arith) ∙ u .above j b;
     }
 
+-- When the stores have reached `from`, all words from there on have moved up.
 pub up-end : (ws after : List ℕ) (from to i : ℕ) → i ≡ from → UpTo ws after to i → MovedUp ws after from to
 up-end ws after from to i e u =
     record {
@@ -44,17 +47,19 @@ up-end ws after from to i e u =
       above = u .above;
     }
 
--- the words from `from + 4` to i + 4 have moved down
+-- The words from `from` + 4 to i + 4 have moved four places down; the others are as they were.
 pub record DownTo (ws after : List ℕ) (from i : ℕ) : Type 0 where
   pub same-length : length after ≡ length ws
   pub below : (j : ℕ) → j < from → word after j ≡ word ws j
   pub moved : (j : ℕ) → from ≤ j → j < i → word after j ≡ word ws (j + 4)
   pub above : (j : ℕ) → i ≤ j → word after j ≡ word ws j
 
+-- Before any move downward nothing has changed.
 pub down-start : (ws : List ℕ) (from : ℕ) → DownTo ws ws from from
 down-start ws from =
     record { same-length = refl; below = λ j h. refl; moved = λ j h k. absurd (omega arith); above = λ j h. refl }
 
+-- One store more moves one word more down.
 pub down-next : (ws after : List ℕ) (from i : ℕ) → from ≤ i → i + 4 < length ws → DownTo ws after from i
     → DownTo ws (set after i (word after (i + 4))) from (i + 1)
 down-next ws after from i h l u =
@@ -70,6 +75,7 @@ down-next ws after from i h l u =
       above = λ j b. word-other after i (word after (i + 4)) j (λ q. omega arith) ∙ u .above j (omega arith);
     }
 
+-- When the stores have come to the end, all words before it have moved down.
 pub down-end : (ws after : List ℕ) (from to i : ℕ) → from + 4 ≤ to → i + 4 ≡ to → DownTo ws after from i → MovedDown ws after from to
 down-end ws after from to i h e u =
     record {

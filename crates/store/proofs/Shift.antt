@@ -20,7 +20,7 @@ use Rattle.words.proofs.Rotation.{place-below, tag-of-place}
 use Rattle.words.proofs.TableReads.{lengths-most}
 use Rattle.words.proofs.Same.{settings-same, standings-same, packet-same, turns-same, fitting-kept, link-clear-same}
 
--- the queue at `place` loses `less` packets and gains `more`, and the packets of the later places move
+-- The queue at `place` loses `less` packets and gains `more`, and the packets of the later places move.
 pub record Shifted (ws after : List ℕ) (place less more : ℕ) : Type 0 where
   pub same-length : length after ≡ length ws
   pub tables : (i : ℕ) → i < packetsAt → (i ≡ lengthsAt + place → ⊥) → word after i ≡ word ws i
@@ -29,6 +29,7 @@ pub record Shifted (ws after : List ℕ) (place less more : ℕ) : Type 0 where
   pub later : (i j : ℕ) → startOf ws (suc place) ≤ i → i < packetsAt + 4 * lengthsBelow ws 64 → j + 4 * less ≡ i + 4 * more
       → word after j ≡ word ws i
 
+-- As many packets or more lie below a higher place.
 pub lengths-rise : (ws : List ℕ) (p n : ℕ) → p ≤ n → lengthsBelow ws p ≤ lengthsBelow ws n
 lengths-rise ws p n h =
     elim (ℕ-discrete p n) [
@@ -37,20 +38,24 @@ lengths-rise ws p n h =
           (arith, lengths-most ws p n (omega arith))
     ]
 
+-- Below the next place lie the packets below this one and those at it.
 pub lengths-next : (ws : List ℕ) (p : ℕ) → lengthsBelow ws (suc p) ≡ lengthsBelow ws p + word ws (lengthsAt + p)
 unfolding lengthsBelow
 lengths-next ws p = refl
 
+-- A queue starts four words for each packet at the lower places after the first word of the packets.
 pub start-is : (ws : List ℕ) (p : ℕ) → startOf ws p ≡ packetsAt + 4 * lengthsBelow ws p
 unfolding startOf
 start-is ws p = refl
 
 module _ (ws after : List ℕ) (place less more : ℕ) (in-range : place < 64) (s : Shifted ws after place less more) where
+  -- As many packets as before lie below each place up to the changed one.
   below-same : (p : ℕ) → p ≤ place → lengthsBelow after p ≡ lengthsBelow ws p
   unfolding lengthsBelow
   below-same zero h = refl
   below-same (suc p) h = rw (below-same p (omega arith), s .tables (lengthsAt + p) (omega arith) (λ q. omega arith))
 
+  -- Below each place past the changed one lie `more` packets more and `less` fewer, counted from that place.
   above-moved : (n : ℕ) → place + suc n ≤ 64 → lengthsBelow after (place + suc n) + less ≡ lengthsBelow ws (place + suc n) + more
   above-moved zero h =
       (let e : place + 1 ≡ suc place = omega arith in
@@ -67,13 +72,14 @@ module _ (ws after : List ℕ) (place less more : ℕ) (in-range : place < 64) (
       let k = s .tables (lengthsAt + (place + suc n)) (omega arith) (λ q. omega arith) in
       rw e (omega arith))
 
+  -- Below each place past the changed one lie `more` packets more and `less` fewer.
   above : (p : ℕ) → place < p → p ≤ 64 → lengthsBelow after p + less ≡ lengthsBelow ws p + more
   above p h l =
       (let e : place + suc (p - suc place) ≡ p = omega arith in
       let c = above-moved (p - suc place) (omega arith) in
       rw e at c)
 
-  -- the queues at the other places are as they were
+  -- The queues at the other places are as they were.
   pub other-queue : (p : ℕ) → p < 64 → (p ≡ place → ⊥) → queueAt after p ≡ queueAt ws p
   unfolding queueAt
   other-queue p h q =
@@ -99,28 +105,34 @@ module _ (ws after : List ℕ) (place less more : ℕ) (in-range : place < 64) (
             s .later (startOf ws p + 4 * i + j) (startOf after p + 4 * i + j) (omega arith) (omega arith) (omega arith)))
       ])))
 
+  -- In all `more` packets more and `less` fewer wait.
   pub total-moved : lengthsBelow after 64 + less ≡ lengthsBelow ws 64 + more
   total-moved = above 64 in-range (omega arith)
 
+  -- The changed queue starts where it did.
   pub start-same : startOf after place ≡ startOf ws place
   start-same = (let a = start-is after place in let b = start-is ws place in let c = below-same place (omega arith) in omega arith)
 
--- two tags have two places
+-- Two tags have two places.
 places-differ : (turns k tag : ℕ) → k < 64 → tag < 64 → (k ≡ tag → ⊥) → placeOf turns k ≡ placeOf turns tag → ⊥
 places-differ turns k tag h l q e =
     q (sym (tag-of-place turns k h) ∙ ap (tagOf turns) e ∙ tag-of-place turns tag l)
 
 module _ (ws after : List ℕ) (tag less more : ℕ) (k : Fitting ws) (tagged : tag ≤ largestFactor (settingsAt ws))
     (s : Shifted ws after (placeOf (turnsAt ws) tag) less more) where
+  -- The words before the lengths of the queues are as they were.
   kept-words : (i : ℕ) → i < lengthsAt → word after i ≡ word ws i
   kept-words i h = s .tables i (omega arith) (λ q. omega arith)
 
+  -- The settings are as they were.
   shift-settings : settingsAt after ≡ settingsAt ws
   shift-settings = settings-same ws after (k .classes) (λ i h. kept-words i (omega arith))
 
+  -- The queues have turned as often as before.
   shift-turns : turnsAt after ≡ turnsAt ws
   shift-turns = turns-same ws after (kept-words intervalAt (omega arith)) (kept-words counterAt (omega arith))
 
+  -- Of the queues by their tags, only the changed one is another.
   shift-queues : queuesAt after ≡ set (queuesAt ws) tag (queueAt after (placeOf (turnsAt ws) tag))
   unfolding queuesAt
   shift-queues =
@@ -133,6 +145,7 @@ module _ (ws after : List ℕ) (tag less more : ℕ) (k : Fitting ws) (tagged : 
       other-queue ws after (placeOf t tag) less more (place-below t tag) s (placeOf t i) (place-below t i)
       (places-differ t i tag (omega (arith, k .largest)) (omega (arith, k .largest)) q))))
 
+  -- The places of no tag are still empty.
   shift-untagged : untaggedEmpty after ≡ true
   unfolding untaggedEmpty emptyFrom
   shift-untagged =
@@ -146,6 +159,7 @@ module _ (ws after : List ℕ) (tag less more : ℕ) (k : Fitting ws) (tagged : 
       (λ q. places-differ t j tag (omega (arith, k .largest)) (omega (arith, k .largest)) (λ e. omega arith) (omega arith))))) ∙
       k .untagged))
 
+  -- The words become those of the box with that one queue changed, if they fit and the rest stays.
   pub shifted-become : lengthsBelow after 64 ≤ 1024 → ((i : ℕ) → packetsAt + 4 * lengthsBelow after 64 ≤ i → word after i ≡ word ws i)
       → Become ws after (withQueues (contents ws) (set (contents ws .queues) tag (queueAt after (placeOf (turnsAt ws) tag))))
   unfolding contents withQueues

@@ -19,6 +19,7 @@ use Rattle.words.specs.Contents.{padded, packetWords, linkWords, turnsOf, byPla
 use Rattle.words.proofs.Laid.{total, Empty, laid-zeros}
 use Rattle.tables.specs.Opening.{asked, cleared}
 
+-- Clearing one word more after the first i clears the first i + 1.
 pub cleared-next : (ws : List ℕ) (i : ℕ) → i < length ws → set (cleared i ws) i 0 ≡ cleared (suc i) ws
 unfolding cleared
 cleared-next ws i h =
@@ -30,16 +31,19 @@ cleared-next ws i h =
     one-more : (i : ℕ) → i + 1 ≡ suc i
     one-more i = omega arith
 
+-- Zeros without the first k of them are zeros.
 drop-zeros : (k n : ℕ) → k ≤ n → drop k (replicate {A = ℕ} n 0) ≡ replicate (n - k) 0
 drop-zeros zero n h = let e : n ≡ n - 0 = omega arith in ap (λ m. replicate m 0) e
 drop-zeros (suc k) zero h = absurd (omega arith)
 drop-zeros (suc k) (suc n) h = let e : n - k ≡ suc n - suc k = omega arith in drop-zeros k n (omega arith) ∙ ap (λ m. replicate m 0) e
 
+-- Among empty queues every queue is empty, at any place.
 getD-empty : (n k : ℕ) → getD (replicate {A = List Packet} n []) k [] ≡ []
 getD-empty zero k = refl
 getD-empty (suc n) zero = refl
 getD-empty (suc n) (suc k) = getD-empty n k
 
+-- At every place of a new box the queue is empty.
 places-new : (opening : Settings) → byPlace (newBox opening) ≡ series (λ _. []) 1 0 64
 unfolding byPlace newBox emptyQueues
 places-new opening =
@@ -48,10 +52,12 @@ places-new opening =
     series-same (λ p. getD q (tagOf (turnsOf (newBox opening)) p) []) (λ _. []) 1 0 0 64
     (λ i h. getD-empty n (tagOf (turnsOf (newBox opening)) (0 + 1 * i))))
 
+-- The lengths of 64 empty queues are 64 zeros.
 no-lengths : map (length {A = Packet}) (series (λ _. []) 1 0 64) ≡ replicate 64 0
 unfolding series
 no-lengths = refl
 
+-- Empty queues take no words.
 no-words : flatten (map packetWords (flatten (series (λ _. []) 1 0 64))) ≡ []
 unfolding series flatten
 no-words = refl
@@ -99,7 +105,7 @@ tables-new : (D M : ℕ) (fs : List ℕ)
 unfolding laid tables newBox padded
 tables-new D M fs = refl
 
--- the words of a new box: its settings, then zeros
+-- The words of a new box are its settings, then zeros.
 image-new : (D M : ℕ) (fs : List ℕ) → length fs ≤ 8
     → image (newBox (asked D M fs)) ≡ (D ∷ M ∷ length fs ∷ []) ++ (fs ++ replicate (packetsAt - factorsAt - length fs) 0)
 unfolding image
@@ -108,7 +114,7 @@ image-new D M fs h =
     ap (λ p. laid (tables (newBox opening)) ++ p) (packets-new opening) ∙ append-nil (laid (tables (newBox opening))) ∙ tables-new D M fs ∙
     ap (λ l. D ∷ M ∷ length fs ∷ l) (ap (λ l. padded (rowCountAt - factorsAt) fs ++ l) (zeros-new opening) ∙ factors-filled fs h))
 
--- what opening writes is a new box
+-- What opening writes is a new box put into the words.
 pub opening-writes : (D M : ℕ) (fs ws cleared-words : List ℕ) → length fs ≤ 8 → cleared-words ≡ cleared packetsAt ws
     → take factorsAt (set (set (set cleared-words intervalAt D) cycleAt M) classesAt (length fs)) ++ fs ++
     drop (factorsAt + length fs) (set (set (set cleared-words intervalAt D) cycleAt M) classesAt (length fs))
@@ -137,16 +143,19 @@ opening-writes D M fs ws l h e =
       length-replicate {A = ℕ} (packetsAt - factorsAt - length fs) 0,
     ) (omega arith)
 
+-- Empty queues have no packet.
 no-packets : (n : ℕ) → flatten (replicate {A = List Packet} n []) ≡ []
 unfolding flatten
 no-packets zero = refl
 no-packets (suc n) = no-packets n
 
+-- In empty queues every packet is where its rank puts it.
 in-no-queue : (box : Box) (tag n : ℕ) → inTheirQueues box tag (replicate n []) ≡ true
 unfolding inTheirQueues every
 in-no-queue box tag zero = refl
 in-no-queue box tag (suc n) = in-no-queue box (suc tag) n
 
+-- In empty queues the serials rise.
 none-rise : (n : ℕ) → every (λ q. risingAbove 0 (map (λ p. p .serial) q)) (replicate {A = List Packet} n []) ≡ true
 unfolding every risingAbove
 none-rise zero = refl

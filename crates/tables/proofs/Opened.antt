@@ -53,5 +53,6 @@ module _ (set : Settings) (ws : List ℕ) (done : opened set ws .0 ≡ Opened.Do
   pub opened-sound : soundWords (opened set ws .1) ≡ true
   opened-sound = ap soundWords opened-words ∙ sound-put (newBox set) ws (new-box-sound set opened-allowed) words-enough
 
+  -- The words after a successful opening stand for a new box.
   pub opened-new : contents (opened set ws .1) ≡ newBox set
   opened-new = ap contents opened-words ∙ sound-contents-put (newBox set) ws (new-box-sound set opened-allowed)

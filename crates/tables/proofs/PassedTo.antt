@@ -22,7 +22,7 @@ use Rattle.words.proofs.Rotation.{place-below}
 use Rattle.words.proofs.Same.{queue-same}
 use Rattle.tables.proofs.SmallChanges.{counted-far, counted-settings, counter-become}
 
--- where the lengths sum to nothing, each is nothing
+-- Where the lengths sum to 0, each is 0.
 each-zero : (ws : List ℕ) (n : ℕ) → lengthsBelow ws n ≡ 0 → (p : ℕ) → p < n → word ws (lengthsAt + p) ≡ 0
 unfolding lengthsBelow
 each-zero ws zero e p h = absurd (let z = h in omega arith)
@@ -34,9 +34,11 @@ each-zero ws (suc n) e p h =
     ])
 
 module _ (ws : List ℕ) (v : ℕ) (k : Fitting ws) (none : length (waiting (contents ws)) ≡ 0) where
+  -- Where no packet waits, the length at the place of every tag is 0, however often the queues have turned.
   zero-at : (turns tag : ℕ) → word ws (lengthsAt + placeOf turns tag) ≡ 0
   zero-at turns tag = each-zero ws 64 (waiting-count ws (k .untagged) (k .largest) ∙ none) (placeOf turns tag) (place-below turns tag)
 
+  -- Where no packet waits, the places of no tag stay empty at any counter.
   passed-untagged : untaggedEmpty (set ws counterAt v) ≡ true
   unfolding untaggedEmpty emptyFrom
   passed-untagged =
@@ -47,6 +49,7 @@ module _ (ws : List ℕ) (v : ℕ) (k : Fitting ws) (none : length (waiting (con
       (let j = suc r + 1 * i in
       eq-eqb _ 0 (counted-far ws v k (lengthsAt + placeOf t j) (omega arith) ∙ zero-at t j)))))
 
+  -- Where no packet waits, the queues stay as they are at any counter.
   passed-queues : queuesAt (set ws counterAt v) ≡ contents ws .queues
   unfolding queuesAt contents
   passed-queues =
@@ -58,6 +61,7 @@ module _ (ws : List ℕ) (v : ℕ) (k : Fitting ws) (none : length (waiting (con
       queue-same ws (set ws counterAt v) (counted-far ws v k) (placeOf t j) ∙ queue-untagged ws (placeOf t j) (zero-at t j) ∙
       sym (queue-untagged ws (placeOf (turnsAt ws) j) (zero-at (turnsAt ws) j))))))
 
+  -- Where no packet waits, storing a counter makes the words those of the box with that counter.
   pub pass-become : Become ws (set ws counterAt v) (withCounter (contents ws) v)
   unfolding withCounter
   pass-become = counter-become ws v k (contents ws .queues) passed-untagged passed-queues

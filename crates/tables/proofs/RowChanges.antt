@@ -46,6 +46,7 @@ rows-become ws after k l near far n z =
           | no a ↦ near i (omega arith)
         ]
 
+-- A row whose last two words alone change is read with the same request and the new allowance.
 row-is : (ws after : List ℕ) (n next credit : ℕ) → 1 ≤ n → n ≤ word ws rowCountAt
     → word after (rowsAt - 6 + 6 * n) ≡ word ws (rowsAt - 6 + 6 * n)
     → word after ((rowsAt - 6 + 6 * n) + 1) ≡ word ws ((rowsAt - 6 + 6 * n) + 1)
@@ -59,7 +60,7 @@ row-is : (ws after : List ℕ) (n next credit : ℕ) → 1 ≤ n → n ≤ word 
 unfolding standingAt
 row-is ws after n next credit h l a b c d e f = rw (a, b, c, d, e, f, connection-at ws n h l)
 
--- one row of the connections is another
+-- Where the last two words of one row alone change, one connection has a new allowance and the others stay.
 one-row : (ws after : List ℕ) (n next credit : ℕ) → 1 ≤ n → n ≤ word ws rowCountAt → word after rowCountAt ≡ word ws rowCountAt
     → word after (rowsAt - 6 + 6 * n) ≡ word ws (rowsAt - 6 + 6 * n)
     → word after ((rowsAt - 6 + 6 * n) + 1) ≡ word ws ((rowsAt - 6 + 6 * n) + 1)
@@ -85,7 +86,7 @@ one-row ws after n next credit h l m a b c d e f below above =
     ap (λ s. set s (n - 1) (record { asked = connection (contents ws) n; allowance = record { next = next; credit = credit } }))
     (sym (series-unit (standingAt ws) 6 rowsAt (word ws rowCountAt) z)))
 
--- the allowance of one connection
+-- Storing next and credit in a row makes the words those of the box with that allowance.
 pub allowance-become : (ws : List ℕ) (n next credit : ℕ) → Fitting ws → 1 ≤ n → n ≤ word ws rowCountAt
     → Become ws (set (set ws ((rowsAt - 6 + 6 * n) + 4) next) ((rowsAt - 6 + 6 * n) + 5) credit)
     (withStanding (contents ws) (set (contents ws .standing) (n - 1)
@@ -111,7 +112,7 @@ allowance-become ws n next credit k h l =
     (e (at + 2) (λ q. omega arith) (λ q. omega arith)) (e (at + 3) (λ q. omega arith) (λ q. omega arith)) w4 w5
     (λ i x. e i (λ q. omega arith) (λ q. omega arith)) (λ i x. e i (λ q. omega arith) (λ q. omega arith)))) b)
 
--- six stores write a row
+-- Six stores write a row and leave the other words.
 pub row-stored : (ws : List ℕ) (at a b c d e f : ℕ) → at + 6 ≤ length ws
     → RowPut ws (set (set (set (set (set (set ws at a) (at + 1) b) (at + 2) c) (at + 3) d) (at + 4) e) (at + 5) f) at
     (record { asked = record { class = a; longest = b; burst = c; period = d }; allowance = record { next = e; credit = f } })
@@ -158,6 +159,7 @@ row-stored ws at a b c d e f h =
           o1 i (λ q. omega arith);
     })
 
+-- A stretch of zeros has zeros from any later word of it on.
 zeros-later : (ws : List ℕ) (start skip n : ℕ) → zeros ws start (skip + n) ≡ true → zeros ws (start + skip) n ≡ true
 unfolding zeros
 zeros-later ws start skip n e =
@@ -165,6 +167,7 @@ zeros-later ws start skip n e =
     (let q : start + skip + 1 * i ≡ start + 1 * (skip + i) = omega arith in
     ap (λ x. eqb (word ws x) 0) q ∙ every-index (λ w. eqb w 0) (λ i. word ws i) 1 start (skip + n) e (skip + i) (omega arith)))
 
+-- With a row written after the last and a count of one more, the connections are those before and the new one.
 more-rows : (ws after : List ℕ) (s : Standing) → word after rowCountAt ≡ suc (word ws rowCountAt)
     → ((i : ℕ) → rowsAt ≤ i → i < rowsAt + 6 * word ws rowCountAt → word after i ≡ word ws i)
     → standingAt after (rowsAt + 6 * word ws rowCountAt) ≡ s
@@ -177,7 +180,7 @@ more-rows ws after s n e r =
     (λ i h. standing-same ws after (rowsAt + 6 * i) (λ j a b. e j (omega arith) (omega arith)))) ∙
     ap (λ x. series (standingAt ws) 6 rowsAt (word ws rowCountAt) ++ (x ∷ [])) r
 
--- a connection more
+-- A row put after the last, and a count of one more, make the words those of the box with one connection more.
 pub append-become : (ws mid : List ℕ) (s : Standing) (at v : ℕ) → Fitting ws → word ws rowCountAt < 32
     → at ≡ rowsAt + 6 * word ws rowCountAt → v ≡ suc (word ws rowCountAt)
     → RowPut ws mid at s → Become ws (set mid rowCountAt v) (withStanding (contents ws) (contents ws .standing ++ (s ∷ [])))

@@ -9,7 +9,7 @@ use Rattle.laws.specs.Tests.{within}
 use Rattle.meaning.specs.Numbers.{settingsAllowed, intervalAllowed, cycleAllowed, classesAllowed, largestBoundAllowed, largestBound, bound, risingAbove, classCount, factor, largestFactor}
 use Rattle.tables.specs.Opening.{asked}
 
--- the test of settings, number by number
+-- Settings are allowed exactly if their numbers pass their tests, one after another.
 pub settings-parts : (D M : ℕ) (fs : List ℕ)
     → settingsAllowed (asked D M fs) ≡ (within 1 D 256 &&
     (within 1 M 4096 && (leb 1 (length fs) && (leb (length fs) 8 && (risingAbove 0 fs &&

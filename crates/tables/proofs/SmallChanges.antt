@@ -87,7 +87,7 @@ link-become ws after left p k w c =
     (n ∙ counter-is ws) (o .kept acceptedAt (λ x y. omega arith) ∙ accepted-is ws) (ap₂ linkOf l (w .packet))
     (queues-stay ws after leftAt lengthsAt k o (omega arith) (omega arith) n))
 
--- a slot later floor(now/D) is one more exactly at a turn
+-- A slot later floor(now/D) is one more if that slot is a multiple of D.
 next-turn : (n D : ℕ) → 1 ≤ D → suc n % D ≡ 0 → suc n / D ≡ suc (n / D)
 next-turn n D h e =
     (let q = n / D in
@@ -102,6 +102,7 @@ next-turn n D h e =
           absurd (omega arith))
     ])
 
+-- A slot later floor(now/D) is the same if that slot is no multiple of D.
 no-turn : (n D : ℕ) → 1 ≤ D → (suc n % D ≡ 0 → ⊥) → suc n / D ≡ n / D
 no-turn n D h e =
     (let q = n / D in
@@ -113,6 +114,7 @@ no-turn n D h e =
       | no k ↦ (let c : suc n ≡ q * D + suc r = omega arith in ap (λ m. m / D) c ∙ digits-div q {m = D} {r = suc r} (omega arith))
     ])
 
+-- Queues are turned by moving the first to the end.
 first-last : {A : Type 0} (f : ℕ → List A) (r : ℕ) → turned (series f 1 0 (suc r)) ≡ series f 1 1 r ++ (f 0 ∷ [])
 unfolding turned series
 first-last f r = refl
@@ -127,21 +129,24 @@ turned-series {A} f r e =
     ap (λ l. l ++ (f 0 ∷ [])) (series-same g f 1 0 1 r (λ i h. (let y : suc (0 + 1 * i) ≡ 1 + 1 * i = omega arith in ap f y))) ∙
     sym (first-last f r))
 
+-- Where nothing waits at tag 0, the first queue is empty.
 first-empty : (q : List Packet) (qs : List (List Packet)) → tagZeroWaits (q ∷ qs) ≡ false → q ≡ []
 unfolding tagZeroWaits
 first-empty [] qs e = refl
 first-empty (p ∷ q) qs e = absurd (true≢false e)
 
+-- Where nothing waits at tag 0, the queue at its place is empty.
 zero-empty : (ws : List ℕ) → tagZeroWaits (contents ws .queues) ≡ false → queueAt ws (placeOf (turnsAt ws) 0) ≡ []
 unfolding contents queuesAt series
 zero-empty ws e =
     first-empty (queueAt ws (placeOf (turnsAt ws) 0))
     (series (λ k. queueAt ws (placeOf (turnsAt ws) k)) 1 1 (largestFactor (settingsAt ws))) e
 
+-- Where nothing waits at tag 0, the length at its place is 0.
 zero-length : (ws : List ℕ) → tagZeroWaits (contents ws .queues) ≡ false → word ws (lengthsAt + placeOf (turnsAt ws) 0) ≡ 0
 zero-length ws e = sym (length-queue ws (placeOf (turnsAt ws) 0)) ∙ ap length (zero-empty ws e)
 
--- past the last tag nothing waits: the places come round to tag 0
+-- Where nothing waits at tag 0, nothing waits past the last tag, even where the places come round to tag 0.
 past-last : (ws : List ℕ) → Fitting ws → tagZeroWaits (contents ws .queues) ≡ false
     → (k : ℕ) → largestFactor (settingsAt ws) < k → k ≤ 64 → word ws (lengthsAt + placeOf (turnsAt ws) k) ≡ 0
 past-last ws f z k h l =
@@ -187,10 +192,12 @@ module _ (ws : List ℕ) (v : ℕ) (k : Fitting ws) where
       (rows-stay ws after counterAt (counterAt + 1) k o (omega arith)) (word-same ws counterAt v counterAt (omega (arith, k .enough)) refl)
       (o .kept acceptedAt (λ x y. omega arith) ∙ accepted-is ws) (link-stays ws after counterAt (counterAt + 1) k o (omega arith)) q)
 
+  -- After the counter is stored, the queues have turned as often as it and D say.
   turns-after : turnsAt (set ws counterAt v) ≡ v / word ws intervalAt
   unfolding turnsAt
   turns-after = rw (word-same ws counterAt v counterAt (omega (arith, k .enough)) refl, counted-only .kept intervalAt (λ x y. omega arith))
 
+  -- After a turn with nothing waiting at tag 0, the places of no tag are empty.
   turned-untagged : turnsAt (set ws counterAt v) ≡ suc (turnsAt ws) → tagZeroWaits (contents ws .queues) ≡ false
       → untaggedEmpty (set ws counterAt v) ≡ true
   unfolding untaggedEmpty emptyFrom
@@ -203,6 +210,7 @@ module _ (ws : List ℕ) (v : ℕ) (k : Fitting ws) where
       ap (λ p. word ws (lengthsAt + p)) (place-turned (turnsAt ws) j) ∙
       past-last ws k z (suc j) (omega arith) (omega arith))))))
 
+  -- After a turn with nothing waiting at tag 0, the queues that are read are the turned ones.
   turned-queues : turnsAt (set ws counterAt v) ≡ suc (turnsAt ws) → tagZeroWaits (contents ws .queues) ≡ false
       → queuesAt (set ws counterAt v) ≡ turned (contents ws .queues)
   unfolding queuesAt contents
@@ -217,28 +225,33 @@ module _ (ws : List ℕ) (v : ℕ) (k : Fitting ws) where
       (queue-untagged ws (placeOf (turnsAt ws) (suc r)) (past-last ws k z (suc r) (omega arith) (omega (arith, k .largest))) ∙
       sym (zero-empty ws z))))
 
+-- A slot at which the queues turn is a multiple of D.
 turn-slot : (D n : ℕ) → turnAt D (suc n) ≡ true → suc n % D ≡ 0
 unfolding turnAt
 turn-slot D n e = eqb-true (suc n % D) 0 (and-eq-true-iff (ltb 0 (suc n)) (eqb (suc n % D) 0) .0 e .1)
 
+-- A slot above 0 at which the queues do not turn is no multiple of D.
 no-turn-slot : (D n : ℕ) → turnAt D (suc n) ≡ false → suc n % D ≡ 0 → ⊥
 unfolding turnAt
 no-turn-slot D n e z =
     true≢false (sym (and-eq-true-iff (ltb 0 (suc n)) (eqb (suc n % D) 0) .1 (lt-ltb 0 (suc n) (omega arith), eq-eqb (suc n % D) 0 z)) ∙ e)
 
+-- One turn more than the counter and D give is one turn more than the words have.
 turns-is : (ws : List ℕ) → suc (word ws counterAt / word ws intervalAt) ≡ suc (turnsAt ws)
 unfolding turnsAt
 turns-is ws = refl
 
+-- The turns that the counter and D give are those of the words.
 turns-same-is : (ws : List ℕ) → word ws counterAt / word ws intervalAt ≡ turnsAt ws
 unfolding turnsAt
 turns-same-is ws = refl
 
+-- The queues that are read are those of the contents.
 queues-is : (ws : List ℕ) → queuesAt ws ≡ contents ws .queues
 unfolding contents
 queues-is ws = refl
 
--- the box after a slot, where it is known whether a turn is due
+-- Where it is known whether a turn is due, the box with the stored counter is the box a slot later.
 turn-box : (ws : List ℕ) (v : ℕ) (due : Bool) → Fitting ws → v ≡ suc (word ws counterAt)
     → turnAt (word ws intervalAt) (suc (word ws counterAt)) ≡ due
     → Become ws (set ws counterAt v)
@@ -254,6 +267,7 @@ turn-box : (ws : List ℕ) (v : ℕ) (due : Bool) → Fitting ws → v ≡ suc (
 unfolding raised contents settingsAt
 turn-box ws v due k e q b = rw (q, ← e) b
 
+-- Raising the counter makes the words those of the box a slot later, if no due turn is blocked by tag 0.
 pub raise-become : (ws : List ℕ) (v : ℕ) → Fitting ws → v ≡ suc (word ws counterAt)
     → (turnAt (word ws intervalAt) (suc (word ws counterAt)) ≡ true → tagZeroWaits (contents ws .queues) ≡ false)
     → Become ws (set ws counterAt v) (raised (contents ws))

@@ -15,13 +15,13 @@ use Rattle.words.proofs.PutContents.{put-from}
 use Rattle.words.proofs.Counts.{waiting-count, sound-put}
 use Rattle.words.proofs.Same.{drop-same}
 
--- words that become those of a box are the box put into them
+-- Words that become those of a box are the box put into them.
 pub become-put : (ws after : List ℕ) (box : Box) → Become ws after box → after ≡ put box ws
 become-put ws after box b =
     put-from ws after box (b .fitting) (b .stands-for)
     (drop-same ws after (packetsAt + 4 * lengthsBelow after 64) (b .same-length) (b .beyond))
 
--- one change after another is one change, where the first leaves no more packets than the second
+-- One change after another is one change, where the first leaves no more packets waiting than the second.
 pub become-then : (ws mid after : List ℕ) (first second : Box) → Become ws mid first → Become mid after second
     → length (waiting first) ≤ length (waiting second) → Become ws after second
 become-then ws mid after first second a b h =
@@ -34,7 +34,7 @@ become-then ws mid after first second a b h =
       beyond = λ i l. b .beyond i l ∙ a .beyond i (omega arith);
     })
 
--- words that become those of a sound box are sound words
+-- Words that become those of a sound box are sound words.
 pub become-sound : (ws after : List ℕ) (box : Box) → Become ws after box → sound box ≡ true → soundWords after ≡ true
 become-sound ws after box b e =
     ap soundWords (become-put ws after box b) ∙ sound-put box ws e (omega (arith, b .fitting .enough, b .same-length))

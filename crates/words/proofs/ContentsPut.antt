@@ -21,7 +21,7 @@ use Rattle.words.specs.Sound.{zeros, unusedClear, linkClear, emptyFrom, 
 use Rattle.words.proofs.Laid.{after-part, zeros-read, entries-found, rest-clear, total, Fit, Found, after-laid, laid-found}
 use Rattle.words.proofs.Rotation.{place-below, tag-of-place}
 
--- what contents must keep to be read again from their words
+-- What contents must keep to be read again from their words.
 pub record Puttable (box : Box) : Type 0 where
   pub classes : length (box .settings .factors) ≤ 8
   pub rows : length (box .standing) ≤ 32
@@ -29,6 +29,7 @@ pub record Puttable (box : Box) : Type 0 where
   pub largest : largestFactor (box .settings) ≤ 63
   pub tags : length (box .queues) ≡ suc (largestFactor (box .settings))
 
+-- Sound contents can be put.
 pub sound-puttable : (box : Box) → sound box ≡ true → Puttable box
 unfolding classCount
 sound-puttable box e =
@@ -36,9 +37,11 @@ sound-puttable box e =
     let s = settings-facts (box .settings) (f .settings-allowed) in
     record { classes = s .classes-most; rows = f .connections-most; link = f .link-kept; largest = s .factor-most; tags = f .queue-count })
 
+-- The word j places after place i is entry j of the words from i on.
 word-at : (ws : List ℕ) (x : ℕ) (t : List ℕ) (i j : ℕ) → drop i ws ≡ t → getD t j 0 ≡ x → word ws (i + j) ≡ x
 word-at ws x t i j e q = sym (getD-drop i ws j 0) ∙ ap (λ l. getD l j 0) e ∙ q
 
+-- Where the words of a row stand, that row is read.
 standing-read : (ws : List ℕ) (s : Standing) (r : List ℕ) (i : ℕ) → drop i ws ≡ standingWords s ++ r → standingAt ws i ≡ s
 unfolding standingWords standingAt
 standing-read ws s r i e =
@@ -51,6 +54,7 @@ standing-read ws s r i e =
     let g = word-at ws (s .allowance .credit) (standingWords s ++ r) i 5 e refl in
     rw (a, b, c, d, f, g))
 
+-- Where the words of a packet stand, that packet is read.
 packet-read : (ws : List ℕ) (p : Packet) (r : List ℕ) (i : ℕ) → drop i ws ≡ packetWords p ++ r → packetAt ws i ≡ p
 unfolding packetWords packetAt
 packet-read ws p r i e =
@@ -61,14 +65,17 @@ packet-read ws p r i e =
     let d = word-at ws (p .arrival) (packetWords p ++ r) i 3 e refl in
     rw (a, b, c, d))
 
+-- A row takes six words.
 pub standing-size : (s : Standing) → length (standingWords s) ≡ 6
 unfolding standingWords
 standing-size s = refl
 
+-- A packet takes four words.
 pub packet-size : (p : Packet) → length (packetWords p) ≡ 4
 unfolding packetWords
 packet-size p = refl
 
+-- The link takes five words.
 pub link-size : (l : Link) → length (linkWords l) ≡ 5
 unfolding linkWords packetWords
 link-size free = refl
@@ -87,6 +94,7 @@ record Parts (box : Box) (ws : List ℕ) : Type 0 where
   lengths-part : drop lengthsAt ws ≡ padded (packetsAt - lengthsAt) (map length (byPlace box)) ++ drop packetsAt ws
   packets-part : drop packetsAt ws ≡ flatten (map packetWords (flatten (byPlace box))) ++ rest
 
+-- There are 64 places.
 pub length-places : (box : Box) → length (byPlace box) ≡ 64
 unfolding byPlace
 length-places box = length-series (λ p. getD (box .queues) (tagOf (turnsOf box) p) []) 1 0 64
@@ -134,16 +142,18 @@ put-parts box ws k =
       packets-part = ap (λ n. drop (0 + n) after) (sym (tables-total box)) ∙ after-laid (tables box) after (packets ++ R) 0 fit e;
     })
 
+-- The queue at a place has as many packets as the word for its length says.
 pub length-queue : (ws : List ℕ) (p : ℕ) → length (queueAt ws p) ≡ word ws (lengthsAt + p)
 unfolding queueAt
 length-queue ws p = length-series (packetAt ws) 4 (startOf ws p) (word ws (lengthsAt + p))
 
+-- A series of zeros is zeros repeated.
 zeros-series : (start n : ℕ) → series {A = ℕ} (λ _. 0) 1 start n ≡ replicate n 0
 unfolding series
 zeros-series start zero = refl
 zeros-series start (suc n) = ap (λ l. 0 ∷ l) (zeros-series (start + 1) n)
 
--- the lengths of the queues stand in their places
+-- The length of every queue stands in the word of its place.
 length-read : (box : Box) (ws : List ℕ) → Parts box ws → (p : ℕ) → p < 64 → word ws (lengthsAt + p) ≡ length (getD (byPlace box) p [])
 length-read box ws k p h =
     word-at ws (length (getD (byPlace box) p [])) _ lengthsAt p
@@ -152,6 +162,7 @@ length-read box ws k p h =
     (let l : length (map (length {A = Packet}) (byPlace box)) ≡ 64 = length-map (byPlace box) length ∙ length-places box in omega arith) ∙
     List·getD-map length (byPlace box) p [])
 
+-- The lengths at the places below p sum to the packets of the queues at those places.
 below-read : (box : Box) (ws : List ℕ) → Parts box ws → (p : ℕ) → p ≤ 64 → lengthsBelow ws p ≡ length (flatten (take p (byPlace box)))
 unfolding lengthsBelow flatten
 below-read box ws k zero h = refl
@@ -167,10 +178,11 @@ below-read box ws k (suc p) h =
       below-read box ws k p (omega arith),
     ))
 
--- the words of some queues
+-- The words of some queues, one after another.
 flat : List (List Packet) → List ℕ
 flat qs = flatten (map packetWords (flatten qs))
 
+-- The words of some queues are those before one of them, its own and those after it.
 flat-split : (a : List (List Packet)) (q : List Packet) (r : List (List Packet))
     → flat (a ++ q ∷ r) ≡ flat a ++ (flatten (map packetWords q) ++ flat r)
 unfolding flatten flat
@@ -180,7 +192,7 @@ flat-split a q r =
     ap (λ l. flatten (map packetWords (flatten a)) ++ l)
     (ap flatten (map-append packetWords q (flatten r)) ∙ flatten-append (map packetWords q) (map packetWords (flatten r)))
 
--- the words of a queue stand at its start
+-- The words of a queue stand at its start, and those of the later places follow.
 queue-found : (box : Box) (ws : List ℕ) (k : Parts box ws) (p : ℕ) → p < 64
     → drop (startOf ws p) ws ≡ flatten (map packetWords (getD (byPlace box) p [])) ++ (flat (drop (suc p) (byPlace box)) ++ k .rest)
 unfolding startOf flat
@@ -197,6 +209,7 @@ queue-found box ws k p h =
     after-part ws (flat a) (Q ++ (flat r ++ k .rest)) packetsAt (4 * lengthsBelow ws p) e
     (length-chunks packetWords 4 packet-size (flatten a) ∙ ap (λ n. 4 * n) (sym (below-read box ws k p (omega arith)))))
 
+-- The queue that is read at a place is the one that was put there.
 queue-read : (box : Box) (ws : List ℕ) → Parts box ws → (p : ℕ) → p < 64 → queueAt ws p ≡ getD (byPlace box) p []
 unfolding queueAt
 queue-read box ws k p h =
@@ -204,7 +217,7 @@ queue-read box ws k p h =
     (chunks-read (packetAt ws) packetWords 4 ws packet-size (packet-read ws) (getD (byPlace box) p [])
     (flat (drop (suc p) (byPlace box)) ++ k .rest) (startOf ws p) (queue-found box ws k p h))
 
--- the queue tagged k is read at its place
+-- The queue tagged k is read at its place.
 tag-read : (box : Box) (ws : List ℕ) → Parts box ws → (k : ℕ) → k < 64 → queueAt ws (placeOf (turnsOf box) k) ≡ getD (box .queues) k []
 unfolding byPlace
 tag-read box ws parts k h =
@@ -257,6 +270,7 @@ settings-read box ws k =
           (k .factors-part)),
     ))
 
+-- The rows that stand are read.
 standings-read : (box : Box) (ws : List ℕ) → Parts box ws → standings ws ≡ box .standing
 unfolding standings
 standings-read box ws k =
@@ -265,11 +279,13 @@ standings-read box ws k =
     (chunks-read (standingAt ws) standingWords 6 ws standing-size (standing-read ws) (box .standing) _ rowsAt
     (entries-found ws rows (drop counterAt ws) rowsAt (counterAt - rowsAt) (k .rows-part))))
 
+-- A link with units left carries its packet.
 pub link-carries : (left : ℕ) (p : Packet) → 1 ≤ left → linkOf left p ≡ carries p left
 unfolding linkOf
 link-carries zero p h = absurd (omega arith)
 link-carries (suc n) p h = refl
 
+-- Where the words of a link stand, that link is read.
 link-read : (l : Link) (ws r : List ℕ) → linkKept l ≡ true → drop leftAt ws ≡ linkWords l ++ r
     → linkOf (word ws leftAt) (packetAt ws linkAt) ≡ l
 unfolding linkWords linkOf linkKept
@@ -281,6 +297,7 @@ link-read (carries p left) ws r k e =
     let c : linkOf left p ≡ carries p left = link-carries left p h in
     ap (λ n. linkOf n (packetAt ws linkAt)) a ∙ ap (linkOf left) b ∙ c)
 
+-- The number of turns that is read is that of the contents.
 turns-read : (box : Box) (ws : List ℕ) → Parts box ws → turnsAt ws ≡ turnsOf box
 unfolding turnsAt turnsOf
 turns-read box ws k =
@@ -288,6 +305,7 @@ turns-read box ws k =
     let n = word-at ws (box .counter) _ counterAt 0 (counts-found box ws k) refl in
     rw (d, n))
 
+-- The queues are read by their tags.
 queues-read : (box : Box) (ws : List ℕ) → Puttable box → Parts box ws → queuesAt ws ≡ box .queues
 unfolding queuesAt
 queues-read box ws kept k =
@@ -297,7 +315,7 @@ queues-read box ws kept k =
     (λ i h. tag-read box ws k (0 + 1 * i) (omega (arith, kept .largest))) ∙
     ap (λ m. series (λ i. getD (box .queues) i []) 1 0 m) (sym (kept .tags)) ∙ series-self (box .queues) []))
 
--- words with these parts stand for these contents
+-- Words with these parts stand for these contents.
 parts-contents : (box : Box) (ws : List ℕ) → Puttable box → Parts box ws → contents ws ≡ box
 unfolding contents
 parts-contents box ws kept k =
@@ -312,7 +330,7 @@ parts-contents box ws kept k =
       queues-read box ws kept k,
     ))
 
--- contents that are put are read again
+-- Contents that are put are read again.
 pub contents-put : (box : Box) (ws : List ℕ) → Puttable box → contents (put box ws) ≡ box
 contents-put box ws k = parts-contents box (put box ws) k (put-parts box ws k)
 
@@ -331,6 +349,7 @@ unused-put box ws k =
       rest-clear ws rows (drop counterAt ws) rowsAt counterAt (k .rows-part),
     )))
 
+-- Where the words of a link stand, its packet's words are 0 if no units are left.
 link-put : (l : Link) (ws r : List ℕ) → linkKept l ≡ true → drop leftAt ws ≡ linkWords l ++ r → linkClear ws ≡ true
 unfolding linkWords linkClear linkKept
 link-put free ws r k e =
@@ -341,6 +360,7 @@ link-put (carries p left) ws r k e =
     let h : 1 ≤ left = within-facts 1 left (p .units - 1) k .0 in
     ap (λ b. cond b (zeros ws linkAt (lengthsAt - linkAt)) true) (ne-eqb (word ws leftAt) 0 (omega arith)))
 
+-- The places of no tag have no packet, in words with these parts.
 untagged-put : (box : Box) (ws : List ℕ) → Puttable box → Parts box ws → untaggedEmpty ws ≡ true
 unfolding untaggedEmpty emptyFrom
 untagged-put box ws kept k =
@@ -353,11 +373,14 @@ untagged-put box ws kept k =
     ap length (List·getD-eq-default (box .queues) [] {n = t} (omega (arith, kept .tags)))))) ∙
     ap (every (λ w. eqb w 0)) (zeros-series 0 (63 - r)) ∙ every-zeros (63 - r)))
 
+-- Contents that are put leave 0 in the places of factors and rows that are not used.
 pub put-unused : (box : Box) (ws : List ℕ) → Puttable box → unusedClear (put box ws) ≡ true
 put-unused box ws k = unused-put box (put box ws) (put-parts box ws k)
 
+-- Contents that are put leave 0 in the packet's words of a free link.
 pub put-link : (box : Box) (ws : List ℕ) → Puttable box → linkClear (put box ws) ≡ true
 put-link box ws k = link-put (box .link) (put box ws) _ (k .link) (link-found box (put box ws) (put-parts box ws k))
 
+-- Contents that are put leave no packet at a place of no tag.
 pub put-untagged : (box : Box) (ws : List ℕ) → Puttable box → untaggedEmpty (put box ws) ≡ true
 put-untagged box ws k = untagged-put box (put box ws) k (put-parts box ws k)

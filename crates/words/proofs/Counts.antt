@@ -21,12 +21,13 @@ use Rattle.words.proofs.PutContents.{put-contents, class-count, row-cou
 use Rattle.words.proofs.TableReads.{interval-at, classes-at}
 use Rattle.words.proofs.ContentsPut.{Puttable, sound-puttable, length-queue, packet-size, tables-total, tables-fit, contents-put, put-unused, put-link, put-untagged}
 
+-- The waiting packets below a place are the sum of the lengths there.
 pub lengths-sum : (ws : List ℕ) (p : ℕ) → lengthsBelow ws p ≡ sumBelow (λ i. word ws (lengthsAt + i)) p
 unfolding lengthsBelow sumBelow
 lengths-sum ws zero = refl
 lengths-sum ws (suc p) = rw (lengths-sum ws p)
 
--- the lengths of all places are those of the tagged queues
+-- The lengths at all places sum to the packets that wait.
 pub waiting-count : (ws : List ℕ) → untaggedEmpty ws ≡ true → largestFactor (settingsAt ws) ≤ 63
     → lengthsBelow ws 64 ≡ length (waiting (contents ws))
 unfolding waiting contents queuesAt placeOf
@@ -41,7 +42,7 @@ waiting-count ws e h =
     sumBelow-same g (λ k. length (queueAt ws (placeOf t k))) (suc r) (λ k l. sym (length-queue ws (placeOf t k))) ∙
     sym (length-flatten (λ k. queueAt ws (placeOf t k)) (suc r)))
 
--- the packets at all places are those that wait
+-- The packets at all places are as many as those that wait.
 pub places-count : (box : Box) → length (box .queues) ≤ 64 → length (flatten (byPlace box)) ≡ length (waiting box)
 unfolding waiting byPlace tagOf
 places-count box h =
@@ -55,7 +56,7 @@ places-count box h =
     sumBelow-zeros f (length qs) (64 - length qs) (λ k a b. ap length (List·getD-eq-default qs [] {n = k} a)) ∙
     sym (length-flatten (λ k. getD qs k []) (length qs)) ∙ ap (λ l. length (flatten l)) (series-self qs []))
 
--- the words that contents take
+-- Contents take the words of the tables and four for each packet that waits.
 pub image-size : (box : Box) → Puttable box → length (image box) ≡ packetsAt + 4 * length (waiting box)
 unfolding image
 image-size box k =
@@ -64,7 +65,7 @@ image-size box k =
     let w = places-count box (omega (arith, k .tags, k .largest)) in
     simp (length-append, fixed, packets, w) (omega arith))
 
--- words with contents put into them are as many as before
+-- Words with contents put into them are as many as before.
 pub length-put : (box : Box) (ws : List ℕ) → Puttable box → length (waiting box) ≤ 1024 → boxWords ≤ length ws
     → length (put box ws) ≡ length ws
 unfolding put
@@ -72,7 +73,7 @@ length-put box ws k w h =
     (let n = image-size box k in
     rw (length-append (image box) (drop (length (image box)) ws), length-drop (length (image box)) ws) (omega arith))
 
--- sound contents put into enough words make sound words
+-- Sound contents put into enough words make sound words.
 pub sound-put : (box : Box) (ws : List ℕ) → sound box ≡ true → boxWords ≤ length ws → soundWords (put box ws) ≡ true
 unfolding soundWords wellFormed
 sound-put box ws e h =
@@ -91,7 +92,7 @@ sound-put box ws e h =
       ap sound (contents-put box ws k) ∙ e,
     ))
 
--- sound words are fitting
+-- Sound words are fitting.
 pub sound-fitting : (ws : List ℕ) → soundWords ws ≡ true → Fitting ws
 unfolding soundWords wellFormed unusedClear contents classCount
 sound-fitting ws e =
@@ -117,7 +118,7 @@ sound-fitting ws e =
       total = omega (arith, f .waiting-most, waiting-count ws (b .1) (s .factor-most));
     })
 
--- contents put over other contents, where these take no more words, are put over the words as they were
+-- Contents put over others that take no more words are put over the words as they were.
 pub put-put : (box other : Box) (ws : List ℕ) → length (image other) ≤ length (image box) → put box (put other ws) ≡ put box ws
 unfolding put
 put-put box other ws h =
@@ -129,10 +130,10 @@ put-put box other ws h =
     ap (λ k. drop k ws) (sym e) in
     ap (λ l. image box ++ l) d)
 
--- sound words are those that their own contents put
+-- Sound words are those that their own contents put.
 pub sound-put-contents : (ws : List ℕ) → soundWords ws ≡ true → put (contents ws) ws ≡ ws
 sound-put-contents ws e = put-contents ws (sound-fitting ws e)
 
--- sound contents put into words are read again
+-- Sound contents put into words are read again.
 pub sound-contents-put : (box : Box) (ws : List ℕ) → sound box ≡ true → contents (put box ws) ≡ box
 sound-contents-put box ws e = contents-put box ws (sound-puttable box e)

@@ -18,6 +18,7 @@ use Rattle.words.proofs.Laid.{padded-series, Reads, laid-series}
 use Rattle.words.proofs.ContentsPut.{tables-total}
 use Rattle.words.proofs.Rotation.{tag-below, place-of-tag}
 
+-- The words of the row that is read at a word are the six words from there.
 pub standing-words : (ws : List ℕ) (i : ℕ) → standingWords (standingAt ws i) ≡ series (λ j. word ws j) 1 i 6
 unfolding standingWords standingAt series
 standing-words ws i =
@@ -27,6 +28,7 @@ standing-words ws i =
     let d : i + 4 + 1 ≡ i + 5 = omega arith in
     rw (a, b, c, d))
 
+-- The words of the packet that is read at a word are the four words from there.
 pub packet-words : (ws : List ℕ) (i : ℕ) → packetWords (packetAt ws i) ≡ series (λ j. word ws j) 1 i 4
 unfolding packetWords packetAt series
 packet-words ws i =
@@ -34,12 +36,14 @@ packet-words ws i =
     let b : i + 2 + 1 ≡ i + 3 = omega arith in
     rw (a, b))
 
+-- The words of a link with n units left are the five words at its place, if those of a free link's packet are 0.
 link-words-of : (ws : List ℕ) (n : ℕ) → word ws leftAt ≡ n → (n ≡ 0 → zeros ws linkAt (lengthsAt - linkAt) ≡ true)
     → linkWords (linkOf n (packetAt ws linkAt)) ≡ series (λ j. word ws j) 1 leftAt (lengthsAt - leftAt)
 unfolding linkWords linkOf series zeros
 link-words-of ws zero q z = rw q (ap (λ l. 0 ∷ l) (sym (series-zeros (λ j. word ws j) 1 linkAt 4 (z refl))))
 link-words-of ws (suc n) q z = rw q (ap (λ l. suc n ∷ l) (packet-words ws linkAt))
 
+-- The words of the link that is read are those at its place, where a free link has zeros.
 pub link-words : (ws : List ℕ) → linkClear ws ≡ true
     → linkWords (linkOf (word ws leftAt) (packetAt ws linkAt)) ≡ series (λ j. word ws j) 1 leftAt (lengthsAt - leftAt)
 unfolding linkClear
@@ -47,20 +51,23 @@ link-words ws e =
     link-words-of ws (word ws leftAt) refl (λ q. sym (ap (λ b. cond b (zeros ws linkAt (lengthsAt - linkAt)) true)
     (eq-eqb (word ws leftAt) 0 q)) ∙ e)
 
--- the queue at a place of no tag is empty
+-- The queue at a place with the length 0 is empty.
 pub queue-untagged : (ws : List ℕ) (p : ℕ) → word ws (lengthsAt + p) ≡ 0 → queueAt ws p ≡ []
 unfolding queueAt series
 queue-untagged ws p e = rw e
 
+-- The words of the packets below a place end where its queue starts.
 start-at : (ws : List ℕ) (p : ℕ) → packetsAt + 1 * (4 * lengthsBelow ws p) ≡ startOf ws p
 unfolding startOf
 start-at ws p = omega arith
 
+-- The words of the queue at a place are the stretch from its start, four for each packet.
 queue-words : (ws : List ℕ) (p : ℕ) → flatten (map packetWords (queueAt ws p))
     ≡ series (λ j. word ws j) 1 (startOf ws p) (4 * word ws (lengthsAt + p))
 unfolding queueAt
 queue-words ws p = chunks-words (packetAt ws) packetWords (λ j. word ws j) 4 (packet-words ws) (startOf ws p) (word ws (lengthsAt + p))
 
+-- If the queues below place p are the stretch from the first packet on, so are those below place p + 1.
 queues-next : (ws : List ℕ) (p : ℕ)
     → flatten (map packetWords (flatten (series (queueAt ws) 1 0 p))) ≡ series (λ j. word ws j) 1 packetsAt (4 * lengthsBelow ws p)
     → flatten (map packetWords (flatten (series (queueAt ws) 1 0 (suc p))))
@@ -86,14 +93,14 @@ queues-next ws p h =
     (sym (sym (ap (λ x. series w 1 packetsAt x) k) ∙ series-append w 1 packetsAt (4 * n) (4 * m) ∙
     ap (λ x. series w 1 packetsAt (4 * n) ++ series w 1 x (4 * m)) (start-at ws p))))
 
--- the words of the queues at the places below p, one after another
+-- The words of the queues at the places below p are the stretch from the first packet on.
 pub queues-words : (ws : List ℕ) (p : ℕ)
     → flatten (map packetWords (flatten (series (queueAt ws) 1 0 p))) ≡ series (λ j. word ws j) 1 packetsAt (4 * lengthsBelow ws p)
 unfolding series lengthsBelow flatten
 queues-words ws zero = refl
 queues-words ws (suc p) = queues-next ws p (queues-words ws p)
 
--- every untagged number has length 0
+-- The length at the place of a number that is no tag is 0.
 pub untagged-zero : (ws : List ℕ) → untaggedEmpty ws ≡ true → (k : ℕ) → largestFactor (settingsAt ws) < k → k < 64
     → word ws (lengthsAt + placeOf (turnsAt ws) k) ≡ 0
 unfolding untaggedEmpty emptyFrom
@@ -104,6 +111,7 @@ untagged-zero ws e k h l =
     sym (ap f q) ∙ sym (getD-series f 1 (suc r) (63 - r) (k - suc r) 0 (omega arith)) ∙
     ap (λ l. getD l (k - suc r) 0) (series-zeros f 1 (suc r) (63 - r) e) ∙ getD-replicate (63 - r) (k - suc r) 0 0 (omega arith))
 
+-- The queue that the contents have for the tag of a place is the queue at that place.
 queue-tagged : (ws : List ℕ) → untaggedEmpty ws ≡ true → largestFactor (settingsAt ws) ≤ 63
     → (p : ℕ) → p < 64 → getD (queuesAt ws) (tagOf (turnsAt ws) p) [] ≡ queueAt ws p
 unfolding queuesAt
@@ -122,7 +130,7 @@ queue-tagged ws e h p l =
           untagged-zero ws e t (omega arith) (tag-below (turnsAt ws) p)))
     ])
 
--- the queues by their places are those in the words
+-- The queues of the contents by their places are those in the words.
 pub by-place : (ws : List ℕ) → untaggedEmpty ws ≡ true → largestFactor (settingsAt ws) ≤ 63
     → byPlace (contents ws) ≡ series (queueAt ws) 1 0 64
 unfolding byPlace contents turnsOf turnsAt settingsAt
@@ -130,6 +138,7 @@ by-place ws e h =
     series-same (λ p. getD (queuesAt ws) (tagOf (turnsAt ws) p) []) (queueAt ws) 1 0 0 64
     (λ i l. queue-tagged ws e h (0 + 1 * i) (omega arith))
 
+-- The lengths of the queues at the 64 places are the words of their table.
 lengths-words : (ws : List ℕ) → map length (series (queueAt ws) 1 0 64) ≡ series (λ j. word ws j) 1 lengthsAt (packetsAt - lengthsAt)
 unfolding queueAt
 lengths-words ws =
@@ -152,10 +161,12 @@ factors-words : (ws : List ℕ) → Fitting ws
 unfolding settingsAt
 factors-words ws k = padded-series ws factorsAt (word ws classesAt) rowCountAt (omega (arith, k .classes)) (k .factors-clear)
 
+-- There are as many factors as the word for the number of classes says.
 pub class-count : (ws : List ℕ) → length (settingsAt ws .factors) ≡ word ws classesAt
 unfolding settingsAt
 class-count ws = length-series (λ i. word ws i) 1 factorsAt (word ws classesAt)
 
+-- As many rows stand as the word at their count says.
 pub row-count : (ws : List ℕ) → length (standings ws) ≡ word ws rowCountAt
 unfolding standings
 row-count ws = length-series (standingAt ws) 6 rowsAt (word ws rowCountAt)
@@ -214,7 +225,7 @@ tables-read ws k =
       ),
     ))
 
--- the words of the contents are the first words
+-- The words of the contents are the first words, up to the last waiting packet.
 pub image-contents : (ws : List ℕ) → Fitting ws → image (contents ws) ≡ series (λ j. word ws j) 1 0 (packetsAt + 4 * lengthsBelow ws 64)
 unfolding image
 image-contents ws k =
@@ -224,10 +235,11 @@ image-contents ws k =
     (ap (λ qs. flatten (map packetWords (flatten qs))) places ∙ queues-words ws 64) ∙
     sym (series-append w 1 0 packetsAt (4 * lengthsBelow ws 64)))
 
+-- The contents of fitting words take the tables and four words for each waiting packet.
 pub length-image : (ws : List ℕ) → Fitting ws → length (image (contents ws)) ≡ packetsAt + 4 * lengthsBelow ws 64
 length-image ws k = ap length (image-contents ws k) ∙ length-series (λ j. word ws j) 1 0 (packetsAt + 4 * lengthsBelow ws 64)
 
--- well-formed words are those that their own contents put
+-- Fitting words are those that their own contents put.
 pub put-contents : (ws : List ℕ) → Fitting ws → put (contents ws) ws ≡ ws
 unfolding put
 put-contents ws k =
@@ -235,7 +247,7 @@ put-contents ws k =
     append-same (image-contents ws k ∙ series-take ws 0 n (omega (arith, k .total, k .enough))) (ap (λ m. drop m ws) (length-image ws k)) ∙
     take-append-drop n ws)
 
--- words that stand for the contents and keep the rest are those that the contents put
+-- Words that stand for these contents and keep the rest are those that the contents put.
 pub put-from : (ws other : List ℕ) (box : Box) → Fitting other → contents other ≡ box
     → drop (packetsAt + 4 * lengthsBelow other 64) other ≡ drop (packetsAt + 4 * lengthsBelow other 64) ws → other ≡ put box ws
 unfolding put

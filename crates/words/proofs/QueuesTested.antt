@@ -20,12 +20,13 @@ use Rattle.words.specs.Tested.{packetFits, packetsFit, queueFits, queues
 use Rattle.words.proofs.Rotation.{place-below, tag-below, tag-of-place, place-of-tag}
 use Rattle.words.proofs.ContentsPut.{length-queue}
 
--- the clauses on the packets of one queue
+-- The packets of one queue rise in serial, are kept and have the rank of the queue.
 pub record QueueFacts (box : Box) (rank before : ℕ) (q : List Packet) : Type 0 where
   pub rise : risingAbove before (map (λ p. p .serial) q) ≡ true
   pub kept : every (packetKept box) q ≡ true
   pub ranked : every (λ p. eqb (rankIn box p) rank) q ≡ true
 
+-- Packets that pass the test of a queue keep its clauses.
 pub packets-facts : (box : Box) (rank before : ℕ) (q : List Packet) → packetsFit box rank before q ≡ true → QueueFacts box rank before q
 unfolding packetsFit packetFits risingAbove every
 packets-facts box rank before [] e = record { rise = refl; kept = refl; ranked = refl }
@@ -41,6 +42,7 @@ packets-facts box rank before (p ∷ q) e =
       ranked = and-eq-true-iff r (every (λ p. eqb (rankIn box p) rank) q) .1 (b .1, f .ranked);
     })
 
+-- Packets that keep the clauses of a queue pass its test.
 pub packets-test : (box : Box) (rank before : ℕ) (q : List Packet) → QueueFacts box rank before q → packetsFit box rank before q ≡ true
 unfolding packetsFit packetFits risingAbove every
 packets-test box rank before [] f = refl
@@ -55,12 +57,13 @@ packets-test box rank before (p ∷ q) f =
       packets-test box rank (p .serial) q (record { rise = a .1; kept = b .1; ranked = c .1 }),
     ))
 
--- the clauses on all queues in words, by their tags
+-- The queue of every tag keeps its clauses, and at a place of no tag there is no packet.
 pub record QueuesFacts (ws : List ℕ) : Type 0 where
   pub tagged : (k : ℕ) → k ≤ largestFactor (settingsAt ws) → k < 64
       → QueueFacts (contents ws) (turnsAt ws + k) 0 (queueAt ws (placeOf (turnsAt ws) k))
   pub untagged : (k : ℕ) → largestFactor (settingsAt ws) < k → k < 64 → word ws (lengthsAt + placeOf (turnsAt ws) k) ≡ 0
 
+-- Words that pass the test of the queues keep the clauses on all queues.
 pub queues-facts : (ws : List ℕ) → queuesTested ws ≡ true → QueuesFacts ws
 unfolding queuesTested queueFits
 queues-facts ws e =
@@ -82,6 +85,7 @@ queues-facts ws e =
         ap (λ tag. queueFits ws tag (queueAt ws (placeOf (turnsAt ws) k))) (sym (tag-of-place (turnsAt ws) k l)) ∙
         everyBelow-at (λ p. queueFits ws (tagOf (turnsAt ws) p) (queueAt ws p)) 64 e (placeOf (turnsAt ws) k) (place-below (turnsAt ws) k)
 
+-- Words that keep the clauses on all queues pass the test of the queues.
 pub queues-test : (ws : List ℕ) → QueuesFacts ws → queuesTested ws ≡ true
 unfolding queuesTested queueFits
 queues-test ws f =
@@ -102,7 +106,7 @@ queues-test ws f =
               eq-eqb (length q) 0 (length-queue ws (placeOf (turnsAt ws) k) ∙ f .untagged k (omega arith) l)
         ])
 
--- packets in their queues, queue by queue
+-- If each queue has only packets of its rank, the packets are in their queues.
 pub in-queues-all : (box : Box) (f : ℕ → List Packet) (tag n : ℕ)
     → ((k : ℕ) → tag ≤ k → k < tag + n → every (λ p. eqb (rankIn box p) (box .counter / box .settings .interval + k)) (f k) ≡ true)
     → inTheirQueues box tag (series f 1 tag n) ≡ true
@@ -116,6 +120,7 @@ in-queues-all box f tag (suc n) h =
           in-queues-all box f (suc tag) n (λ k a b. h k (omega arith) (omega arith)),
     )
 
+-- If the packets are in their queues, each queue has only packets of its rank.
 pub in-queues-at : (box : Box) (f : ℕ → List Packet) (tag n : ℕ) → inTheirQueues box tag (series f 1 tag n) ≡ true
     → (k : ℕ) → tag ≤ k → k < tag + n → every (λ p. eqb (rankIn box p) (box .counter / box .settings .interval + k)) (f k) ≡ true
 unfolding inTheirQueues series

@@ -11,29 +11,36 @@ use Rattle.words.specs.Sound.{Fitting}
 use Rattle.words.proofs.PutContents.{class-count, row-count}
 use Rattle.words.proofs.Counts.{waiting-count}
 
+-- The rotation interval D is the word at its place.
 pub interval-word : (ws : List ℕ) → contents ws .settings .interval ≡ word ws intervalAt
 unfolding contents settingsAt
 interval-word ws = refl
 
+-- The cycle M is the word at its place.
 pub cycle-word : (ws : List ℕ) → contents ws .settings .cycle ≡ word ws cycleAt
 unfolding contents settingsAt
 cycle-word ws = refl
 
+-- The number of classes is the word at its place.
 pub classes-word : (ws : List ℕ) → classCount (contents ws .settings) ≡ word ws classesAt
 unfolding contents classCount
 classes-word ws = class-count ws
 
+-- As many connections stand as the word at the count of rows says.
 pub standing-word : (ws : List ℕ) → length (contents ws .standing) ≡ word ws rowCountAt
 unfolding contents
 standing-word ws = row-count ws
 
+-- The slot counter is the word at its place.
 pub counter-word : (ws : List ℕ) → contents ws .counter ≡ word ws counterAt
 unfolding contents
 counter-word ws = refl
 
+-- The count of accepted packets is the word at its place.
 pub accepted-word : (ws : List ℕ) → contents ws .accepted ≡ word ws acceptedAt
 unfolding contents
 accepted-word ws = refl
 
+-- The waiting packets are as many as the lengths at all places sum to.
 pub waiting-word : (ws : List ℕ) → Fitting ws → length (waiting (contents ws)) ≡ lengthsBelow ws 64
 waiting-word ws k = sym (waiting-count ws (k .untagged) (k .largest))

@@ -17,7 +17,7 @@ use Rattle.words.specs.Contents.{contents, settingsAt, standings, standi
 use Rattle.words.specs.Sound.{zeros, linkClear, emptyFrom, untaggedEmpty, Fitting}
 use Rattle.words.proofs.ContentsPut.{length-queue}
 
--- the contents of a tagged queue
+-- The queue of a tag in the contents is the queue at its place.
 pub queue-tagged-at : (ws : List ℕ) (tag : ℕ) → tag ≤ largestFactor (settingsAt ws)
     → getD (contents ws .queues) tag [] ≡ queueAt ws (placeOf (turnsAt ws) tag)
 unfolding contents queuesAt
@@ -26,11 +26,13 @@ queue-tagged-at ws tag h =
     let e : 0 + 1 * tag ≡ tag = omega arith in
     getD-series f 1 0 (suc (largestFactor (settingsAt ws))) tag [] (omega arith) ∙ ap f e)
 
+-- The queue of a tag has as many packets as the word for the length at its place says.
 pub waiting-length : (ws : List ℕ) (tag : ℕ) → tag ≤ largestFactor (settingsAt ws)
     → length (getD (contents ws .queues) tag []) ≡ word ws (lengthsAt + placeOf (turnsAt ws) tag)
 waiting-length ws tag h = ap length (queue-tagged-at ws tag h) ∙ length-queue ws (placeOf (turnsAt ws) tag)
 
 module _ (ws after : List ℕ) where
+  -- Words with the same settings words have the same settings.
   pub settings-same : word ws classesAt ≤ 8 → ((i : ℕ) → i < rowCountAt → word after i ≡ word ws i) → settingsAt after ≡ settingsAt ws
   unfolding settingsAt
   settings-same h e =
@@ -43,6 +45,7 @@ module _ (ws after : List ℕ) where
         series-same g f 1 factorsAt factorsAt (word ws classesAt) (λ i l. e (factorsAt + 1 * i) (omega arith)),
       ))
 
+  -- A row that reads the same six words is the same.
   pub standing-same : (at : ℕ) → ((i : ℕ) → at ≤ i → i < at + 6 → word after i ≡ word ws i) → standingAt after at ≡ standingAt ws at
   unfolding standingAt
   standing-same at e =
@@ -55,6 +58,7 @@ module _ (ws after : List ℕ) where
         e (at + 5) (omega arith) (omega arith),
       )
 
+  -- Words with the same count and rows have the same connections standing.
   pub standings-same : word ws rowCountAt ≤ 32 → ((i : ℕ) → rowCountAt ≤ i → i < counterAt → word after i ≡ word ws i)
       → standings after ≡ standings ws
   unfolding standings
@@ -63,6 +67,7 @@ module _ (ws after : List ℕ) where
       (series-same (standingAt after) (standingAt ws) 6 rowsAt rowsAt (word ws rowCountAt)
       (λ i l. standing-same (rowsAt + 6 * i) (λ j a b. e j (omega arith) (omega arith))))
 
+  -- Packets that read the same four words are the same.
   pub packet-same : (at other : ℕ) → ((k : ℕ) → k < 4 → word after (at + k) ≡ word ws (other + k)) → packetAt after at ≡ packetAt ws other
   unfolding packetAt
   packet-same at other e =
@@ -71,22 +76,25 @@ module _ (ws after : List ℕ) where
       let z : word after at ≡ word ws other = sym (ap (λ i. word after i) a) ∙ e 0 (omega arith) ∙ ap (λ i. word ws i) b in
       rw (z, e 1 (omega arith), e 2 (omega arith), e 3 (omega arith)))
 
+  -- Words that are the same over a stretch pass the test for zeros there alike.
   pub zeros-same : (start n : ℕ) → ((i : ℕ) → start ≤ i → i < start + n → word after i ≡ word ws i) → zeros after start n ≡ zeros ws start n
   unfolding zeros
   zeros-same start n e =
       ap (every (λ w. eqb w 0)) (series-same (λ i. word after i) (λ i. word ws i) 1 start start n
       (λ i l. e (start + 1 * i) (omega arith) (omega arith)))
 
+  -- Words with the same interval and counter have turned as often.
   pub turns-same : word after intervalAt ≡ word ws intervalAt → word after counterAt ≡ word ws counterAt → turnsAt after ≡ turnsAt ws
   unfolding turnsAt
   turns-same a b = rw (a, b)
 
+  -- Words that are the same from place n on have the same rest there.
   pub drop-same : (n : ℕ) → length after ≡ length ws → ((i : ℕ) → n ≤ i → word after i ≡ word ws i) → drop n after ≡ drop n ws
   drop-same n l e =
       ext-getD 0 (drop n after) (drop n ws) (rw (length-drop n after, length-drop n ws, l))
       (λ i h. getD-drop n after i 0 ∙ e (n + i) (omega arith) ∙ sym (getD-drop n ws i 0))
 
--- words whose tables of settings and connections stay, with a clear link and queues in order, are fitting
+-- Words whose tables of settings and connections stay, with a clear link and queues in order, are fitting.
 pub fitting-kept : (ws after : List ℕ) → Fitting ws → length after ≡ length ws
     → ((i : ℕ) → i < counterAt → word after i ≡ word ws i)
     → linkClear after ≡ true → untaggedEmpty after ≡ true → lengthsBelow after 64 ≤ 1024 → Fitting after
@@ -110,6 +118,7 @@ fitting-kept ws after k l e c u t =
       total = t;
     })
 
+-- Words with the same link words pass the test for a clear link alike.
 pub link-clear-same : (ws after : List ℕ) → ((i : ℕ) → leftAt ≤ i → i < lengthsAt → word after i ≡ word ws i)
     → linkClear after ≡ linkClear ws
 unfolding linkClear
@@ -118,11 +127,13 @@ link-clear-same ws after e =
 
 -- words of the queues that stay give the same queues
 module _ (ws after : List ℕ) (e : (i : ℕ) → lengthsAt ≤ i → word after i ≡ word ws i) where
+  -- Words that are the same from the lengths on have as many packets below each place.
   pub lengths-same : (p : ℕ) → lengthsBelow after p ≡ lengthsBelow ws p
   unfolding lengthsBelow
   lengths-same zero = refl
   lengths-same (suc p) = rw (lengths-same p, e (lengthsAt + p) (omega arith))
 
+  -- Words that are the same from the lengths on have the same queue at each place.
   pub queue-same : (p : ℕ) → queueAt after p ≡ queueAt ws p
   unfolding queueAt startOf
   queue-same p =
@@ -132,6 +143,7 @@ module _ (ws after : List ℕ) (e : (i : ℕ) → lengthsAt ≤ i → word after
       packet-same ws after (packetsAt + 4 * lengthsBelow ws p + 4 * i) (packetsAt + 4 * lengthsBelow ws p + 4 * i)
       (λ j g. e (packetsAt + 4 * lengthsBelow ws p + 4 * i + j) (omega arith))))
 
+  -- If the settings and the turns are the same too, so are the queues by their tags.
   pub queues-same : settingsAt after ≡ settingsAt ws → turnsAt after ≡ turnsAt ws → queuesAt after ≡ queuesAt ws
   unfolding queuesAt
   queues-same s t =
@@ -140,6 +152,7 @@ module _ (ws after : List ℕ) (e : (i : ℕ) → lengthsAt ≤ i → word after
       (suc (largestFactor (settingsAt ws)))
       (λ i h. queue-same (placeOf (turnsAt ws) (0 + 1 * i))))
 
+  -- If the settings and the turns are the same too, the places of no tag are tested alike.
   pub untagged-same : settingsAt after ≡ settingsAt ws → turnsAt after ≡ turnsAt ws → untaggedEmpty after ≡ untaggedEmpty ws
   unfolding untaggedEmpty emptyFrom
   untagged-same s t =

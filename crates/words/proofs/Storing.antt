@@ -9,14 +9,15 @@ use Rattle.words.specs.Places.{word}
 use Rattle.words.specs.Contents.{packetAt}
 use Rattle.words.specs.Changes.{PacketPut}
 
--- a word after a store elsewhere
+-- A store changes no other word.
 pub word-other : (ws : List ℕ) (i v j : ℕ) → (j ≡ i → ⊥) → word (set ws i v) j ≡ word ws j
 word-other ws i v j h = getD-set-other ws i j v 0 h
 
+-- A stored word is read at its place.
 pub word-same : (ws : List ℕ) (i v j : ℕ) → i < length ws → j ≡ i → word (set ws i v) j ≡ v
 word-same ws i v j h e = ap (λ k. word (set ws i v) k) e ∙ getD-set-same ws i v 0 h
 
--- four stores write a packet
+-- Four stores write a packet and leave the other words.
 pub packet-stored : (ws : List ℕ) (at serial connection units arrival : ℕ) → at + 4 ≤ length ws
     → PacketPut ws (set (set (set (set ws at serial) (at + 1) connection) (at + 2) units) (at + 3) arrival) at
     (record { serial = serial; connection = connection; units = units; arrival = arrival })

@@ -64,7 +64,7 @@ module _ (ws after : List ℕ) (from to : ℕ) (k : Fitting ws) (o : Only ws aft
       queues-same ws after (far t) (settings-same ws after (k .classes) (λ i h. o .kept i (λ p q. omega arith)))
       (turns-same ws after (o .kept intervalAt (λ p q. omega arith)) c)
 
-  -- and the places of no tag stay empty.
+  -- Where D and the counter stay too, the places of no tag stay empty.
   pub untagged-stays : rowCountAt ≤ from → to ≤ lengthsAt → word after counterAt ≡ word ws counterAt → untaggedEmpty after ≡ true
   untagged-stays f t c =
       untagged-same ws after (far t) (settings-same ws after (k .classes) (λ i h. o .kept i (λ p q. omega arith)))

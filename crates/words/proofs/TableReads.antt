@@ -24,7 +24,7 @@ use Rattle.words.specs.Sound.{zeros, Tables}
 use Rattle.words.specs.Tested.{rowKept, settingsTested, rowsTested}
 use Rattle.words.proofs.PutContents.{class-count}
 
--- the test of a row, word by word
+-- A row is kept exactly if its six words pass their tests, one after another.
 pub row-parts : (ws : List ℕ) (at : ℕ)
     → rowKept ws (standingAt ws at) ≡ (within 1 (word ws at) (word ws classesAt) &&
     (within 1 (word ws (at + 1)) 64 && (within 1 (word ws (at + 2)) 64 &&
@@ -34,7 +34,7 @@ pub row-parts : (ws : List ℕ) (at : ℕ)
 unfolding rowKept standingAt connectionAllowed classAllowed longestAllowed burstAllowed periodAllowed settingsAt classCount allowanceKept
 row-parts ws at = simp (length-series, and-assoc)
 
--- the connection of a number, read from its row
+-- What the connection of a number asked for stands in its row.
 pub connection-at : (ws : List ℕ) (n : ℕ) → 1 ≤ n → n ≤ word ws rowCountAt
     → connection (contents ws) n ≡ standingAt ws (rowsAt - 6 + 6 * n) .asked
 unfolding connection connections contents standings
@@ -44,7 +44,7 @@ connection-at ws n h k =
     ap (λ l. getD l (n - 1) noConnection) (map-series (λ s. s .asked) (standingAt ws) 6 rowsAt (word ws rowCountAt)) ∙
     getD-series f 6 rowsAt (word ws rowCountAt) (n - 1) noConnection (omega arith) ∙ ap f e)
 
--- the test of a packet, word by word
+-- A packet is kept exactly if its four words pass their tests, one after another.
 pub packet-parts : (ws : List ℕ) (at : ℕ)
     → packetKept (contents ws) (packetAt ws at) ≡ (within 1 (word ws at) (word ws acceptedAt) &&
     (within 1 (word ws (at + 1)) (word ws rowCountAt) &&
@@ -52,7 +52,7 @@ pub packet-parts : (ws : List ℕ) (at : ℕ)
 unfolding packetKept stands contents packetAt standings
 packet-parts ws at = simp (length-series, and-assoc)
 
--- the factor of a class, read from the table
+-- The factor of a class stands in the table of factors.
 pub factor-at : (ws : List ℕ) (p : ℕ) → 1 ≤ p → p ≤ word ws classesAt → factor (settingsAt ws) p ≡ word ws (factorsAt - 1 + p)
 unfolding factor settingsAt
 factor-at ws p h k =
@@ -60,14 +60,17 @@ factor-at ws p h k =
     let e : factorsAt + 1 * (p - 1) ≡ factorsAt - 1 + p = omega arith in
     getD-series f 1 factorsAt (word ws classesAt) (p - 1) 0 (omega arith) ∙ ap f e)
 
+-- The largest factor is the last one in the table of factors.
 pub largest-at : (ws : List ℕ) → 1 ≤ word ws classesAt → largestFactor (settingsAt ws) ≡ word ws (factorsAt - 1 + word ws classesAt)
 unfolding largestFactor classCount
 largest-at ws h = ap (factor (settingsAt ws)) (class-count ws) ∙ factor-at ws (word ws classesAt) h (omega arith)
 
+-- The class of a connection is the first word of its row.
 connection-class : (ws : List ℕ) (n : ℕ) → 1 ≤ n → n ≤ word ws rowCountAt → connection (contents ws) n .class ≡ word ws (rowsAt - 6 + 6 * n)
 unfolding standingAt
 connection-class ws n h k = ap (λ c. c .class) (connection-at ws n h k)
 
+-- The longest packet of a connection is the second word of its row.
 pub connection-longest : (ws : List ℕ) (n : ℕ) → 1 ≤ n → n ≤ word ws rowCountAt
     → connection (contents ws) n .longest ≡ word ws (1 + (rowsAt - 6 + 6 * n))
 unfolding standingAt
@@ -75,12 +78,13 @@ connection-longest ws n h k =
     (let e : (rowsAt - 6 + 6 * n) + 1 ≡ 1 + (rowsAt - 6 + 6 * n) = omega arith in
     ap (λ c. c .longest) (connection-at ws n h k) ∙ ap (λ i. word ws i) e)
 
+-- The rank of a packet is floor(arrival/D) plus the factor of its connection's class.
 rank-of-class : (ws : List ℕ) (at : ℕ) {class : ℕ} → connection (contents ws) (word ws (at + 1)) .class ≡ class
     → rankIn (contents ws) (packetAt ws at) ≡ word ws (at + 3) / word ws intervalAt + factor (settingsAt ws) class
 unfolding rankIn rank packetAt contents settingsAt
 rank-of-class ws at e = ap (λ class. word ws (at + 3) / word ws intervalAt + factor (settingsAt ws) class) e
 
--- the rank of a packet, read from the tables
+-- The rank of a packet is read from its arrival, its connection's row and the table of factors.
 pub rank-at : (ws : List ℕ) (at : ℕ) → Tables ws → 1 ≤ word ws (at + 1) → word ws (at + 1) ≤ word ws rowCountAt
     → rankIn (contents ws) (packetAt ws at) ≡ word ws (at + 3) / word ws intervalAt + word ws
     (factorsAt - 1 + word ws ((rowsAt - 6 + 6 * word ws (at + 1))))
@@ -92,7 +96,7 @@ rank-at ws at k h l =
     rank-of-class ws at (connection-class ws n h l) ∙
     ap (λ m. word ws (at + 3) / word ws intervalAt + m) (factor-at ws (word ws (rowsAt - 6 + 6 * n)) a b))
 
--- a packet that is kept has a connection that stands
+-- A packet that is kept has a connection that stands.
 pub kept-connection : (ws : List ℕ) (at : ℕ) → packetKept (contents ws) (packetAt ws at) ≡ true
     → (1 ≤ word ws (at + 1)) × (word ws (at + 1) ≤ word ws rowCountAt)
 kept-connection ws at e =
@@ -104,20 +108,23 @@ kept-connection ws at e =
     let b = and-eq-true-iff (within 1 n (word ws rowCountAt)) (u && leb (word ws (at + 3)) (word ws counterAt)) .0 (a .1) in
     within-facts 1 n (word ws rowCountAt) (b .0))
 
+-- Where D is at least 1, so is its word.
 pub interval-at : (ws : List ℕ) → 1 ≤ settingsAt ws .interval → 1 ≤ word ws intervalAt
 unfolding settingsAt
 interval-at ws h = h
 
+-- Where there is a class, the word for their number is at least 1.
 pub classes-at : (ws : List ℕ) → 1 ≤ classCount (settingsAt ws) → 1 ≤ word ws classesAt
 unfolding classCount
 classes-at ws h = rw (class-count ws) at h
 
+-- The class of a row that is kept is one of the classes.
 row-class : (ws : List ℕ) (at : ℕ) → rowKept ws (standingAt ws at) ≡ true → (1 ≤ word ws at) × (word ws at ≤ word ws classesAt)
 row-class ws at e =
     (let t = sym (row-parts ws at) ∙ e in within-facts 1 (word ws at) (word ws classesAt)
     (and-eq-true-iff (within 1 (word ws at) (word ws classesAt)) _ .0 t .0))
 
--- tested settings and rows are tables from which packets can be tested
+-- Tested settings and rows are tables from which packets can be tested.
 pub tables-tested : (ws : List ℕ) → boxWords ≤ length ws → settingsTested ws ≡ true → rowsTested ws ≡ true → Tables ws
 unfolding settingsTested rowsTested standings
 tables-tested ws h s r =
@@ -139,7 +146,7 @@ tables-tested ws h s r =
       class-most = λ i l. row-class ws (rowsAt + 6 * i) (rows i l) .1;
     })
 
--- the queue at a place ends where the packets end or before
+-- The queue at a place ends where the packets of a higher place start, or before.
 pub lengths-most : (ws : List ℕ) (p n : ℕ) → p < n → lengthsBelow ws p + word ws (lengthsAt + p) ≤ lengthsBelow ws n
 unfolding lengthsBelow
 lengths-most ws p zero h = absurd (omega arith)
@@ -148,7 +155,7 @@ lengths-most ws p (suc n) h = elim (decLe n p) [ yes k ↦ last (omega arith) | 
     last : p ≡ n → lengthsBelow ws p + word ws (lengthsAt + p) ≤ lengthsBelow ws n + word ws (lengthsAt + n)
     last e = rw e (omega arith)
 
--- the allowance of a number, read from its row
+-- The allowance of a connection stands in its row.
 pub allowance-at : (ws : List ℕ) (n : ℕ) → 1 ≤ n → n ≤ word ws rowCountAt
     → allowance (contents ws) n ≡ standingAt ws (rowsAt - 6 + 6 * n) .allowance
 unfolding allowance contents standings

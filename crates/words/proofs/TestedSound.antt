@@ -25,7 +25,7 @@ use Rattle.words.proofs.ContentsPut.{link-carries}
 use Rattle.words.proofs.Counts.{waiting-count, sound-fitting}
 use Rattle.words.proofs.QueuesTested.{QueueFacts, QueuesFacts, queues-facts, queues-test, in-queues-all, in-queues-at}
 
--- the parts of the test
+-- The parts of the test as facts about the words.
 record Parts (ws : List ℕ) : Type 0 where
   enough : boxWords ≤ length ws
   classes : word ws classesAt ≤ 8
@@ -40,6 +40,7 @@ record Parts (ws : List ℕ) : Type 0 where
   link : linkTested ws ≡ true
   queues : QueuesFacts ws
 
+-- Words that pass the test keep its parts.
 tested-parts : (ws : List ℕ) → tested ws ≡ true → Parts ws
 unfolding tested settingsTested rowsTested countsTested
 tested-parts ws e =
@@ -77,6 +78,7 @@ tested-parts ws e =
       queues = queues-facts ws (a .1);
     })
 
+-- Words that keep the parts of the test pass it.
 parts-tested : (ws : List ℕ) → Parts ws → tested ws ≡ true
 unfolding tested settingsTested rowsTested countsTested
 parts-tested ws p =
@@ -110,17 +112,19 @@ parts-tested ws p =
       queues-test ws (p .queues),
     ))
 
--- the clauses on the link
+-- The link's words are 0 where it is free; else its packet is kept and its units left are in range.
 record LinkFacts (box : Box) (ws : List ℕ) : Type 0 where
   clear : linkClear ws ≡ true
   kept : every (packetKept box) (onLink (linkOf (word ws leftAt) (packetAt ws linkAt))) ≡ true
   left : linkKept (linkOf (word ws leftAt) (packetAt ws linkAt)) ≡ true
 
+-- The link has no packet where no units are left, and one packet otherwise.
 link-count : (n : ℕ) (p : Packet) → length (onLink (linkOf n p)) ≡ cond (eqb n 0) 0 1
 unfolding onLink linkOf
 link-count zero p = refl
 link-count (suc n) p = sym (ap (λ b. cond b 0 1) (ne-eqb (suc n) 0 (λ e. omega arith)))
 
+-- A link that passes its test keeps its clauses.
 link-facts : (ws : List ℕ) → linkTested ws ≡ true → LinkFacts (contents ws) ws
 unfolding linkTested linkClear onLink linkOf every linkKept packetAt
 link-facts ws e =
@@ -149,6 +153,7 @@ link-facts ws e =
     }))
     (bool-cases (eqb (word ws leftAt) 0))
 
+-- A link that keeps its clauses passes its test.
 link-test : (ws : List ℕ) → LinkFacts (contents ws) ws → linkTested ws ≡ true
 unfolding linkTested linkClear onLink linkOf every linkKept packetAt
 link-test ws f =
@@ -169,7 +174,7 @@ link-test ws f =
     (k .0, lt-ltb (word ws leftAt) (word ws (linkAt + 2)) (omega arith))))
     (bool-cases (eqb (word ws leftAt) 0))
 
--- the rows pass both tests together
+-- Every row is kept exactly if all connections are allowed and all allowances are in range.
 rows-both : (ws : List ℕ) → every (rowKept ws) (standings ws) ≡
     (every (connectionAllowed (settingsAt ws)) (connections (contents ws)) && allowancesKept (contents ws))
 unfolding rowKept connections allowancesKept contents
@@ -179,6 +184,7 @@ rows-both ws =
     ap (λ b. b && every (λ s. allowanceKept (s .asked) (word ws counterAt) (s .allowance)) (standings ws))
     (sym (every-map (connectionAllowed (settingsAt ws)) (λ s. s .asked) (standings ws)))
 
+-- Where the queues keep their clauses, the places of no tag have no packet.
 untagged-test : (ws : List ℕ) → QueuesFacts ws → untaggedEmpty ws ≡ true
 unfolding untaggedEmpty emptyFrom
 untagged-test ws f =
@@ -186,17 +192,19 @@ untagged-test ws f =
     every-all (λ w. eqb w 0) (λ k. word ws (lengthsAt + placeOf (turnsAt ws) k)) 1 (suc r) (63 - r) (λ i h.
     eq-eqb _ 0 (f .untagged (suc r + 1 * i) (omega arith) (omega arith))))
 
+-- There are rP + 1 queues.
 queues-count : (ws : List ℕ) → length (queuesAt ws) ≡ suc (largestFactor (settingsAt ws))
 unfolding queuesAt
 queues-count ws = length-series (λ k. queueAt ws (placeOf (turnsAt ws) k)) 1 0 (suc (largestFactor (settingsAt ws)))
 
--- one clause on every queue, tag by tag
+-- If the queue at the place of each tag passes a test, all queues do.
 each-queue : (ws : List ℕ) (test : List Packet → Bool)
     → ((k : ℕ) → k ≤ largestFactor (settingsAt ws) → test (queueAt ws (placeOf (turnsAt ws) k)) ≡ true) → every test (queuesAt ws) ≡ true
 unfolding queuesAt
 each-queue ws test h =
     every-all test (λ k. queueAt ws (placeOf (turnsAt ws) k)) 1 0 (suc (largestFactor (settingsAt ws))) (λ i l. h (0 + 1 * i) (omega arith))
 
+-- If all queues pass a test, the queue at the place of each tag does.
 queue-each : (ws : List ℕ) (test : List Packet → Bool) → every test (queuesAt ws) ≡ true
     → (k : ℕ) → k ≤ largestFactor (settingsAt ws) → test (queueAt ws (placeOf (turnsAt ws) k)) ≡ true
 unfolding queuesAt
@@ -205,6 +213,7 @@ queue-each ws test e k h =
     sym (ap (λ n. test (queueAt ws (placeOf (turnsAt ws) n))) z) ∙
     every-index test (λ k. queueAt ws (placeOf (turnsAt ws) k)) 1 0 (suc (largestFactor (settingsAt ws))) e k (omega arith))
 
+-- The contents of words that keep the parts of the test are sound.
 parts-sound : (ws : List ℕ) → Parts ws → sound (contents ws) ≡ true
 unfolding contents packets waiting serialsRise queuesAt turnsAt settingsAt
 parts-sound ws p =
@@ -237,6 +246,7 @@ parts-sound ws p =
       allowances-kept = b .1;
     }))
 
+-- Words that keep the parts of the test are well formed.
 parts-formed : (ws : List ℕ) → Parts ws → wellFormed ws ≡ true
 unfolding wellFormed unusedClear
 parts-formed ws p =
@@ -253,10 +263,12 @@ parts-formed ws p =
       untagged-test ws (p .queues),
     )
 
+-- The contents of sound words are sound.
 pub sound-contents : (ws : List ℕ) → soundWords ws ≡ true → sound (contents ws) ≡ true
 unfolding soundWords
 sound-contents ws e = and-eq-true-iff (wellFormed ws) (sound (contents ws)) .0 e .1
 
+-- Sound words keep the parts of the test.
 sound-parts : (ws : List ℕ) → soundWords ws ≡ true → Parts ws
 unfolding contents packets waiting serialsRise queuesAt turnsAt settingsAt
 sound-parts ws e =
@@ -293,7 +305,7 @@ sound-parts ws e =
       };
     })
 
--- the test, part by part, is soundness
+-- Words pass the test, part by part, exactly if they are sound.
 pub tested-sound : (ws : List ℕ) → tested ws ≡ soundWords ws
 unfolding soundWords
 tested-sound ws =
@@ -301,6 +313,6 @@ tested-sound ws =
     (λ e. (let p = tested-parts ws e in and-eq-true-iff (wellFormed ws) (sound (contents ws)) .1 (parts-formed ws p, parts-sound ws p)))
     (λ e. parts-tested ws (sound-parts ws e))
 
--- the queues of sound words
+-- The queues of sound words keep their clauses.
 pub sound-queues : (ws : List ℕ) → soundWords ws ≡ true → QueuesFacts ws
 sound-queues ws e = sound-parts ws e .queues

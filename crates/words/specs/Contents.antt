@@ -48,7 +48,7 @@ unfoldable pub linkOf : ℕ → Packet → Link
 linkOf zero p = free
 linkOf (suc n) p = carries p (suc n)
 
--- floor(now/D): how often the queues have turned.
+-- How often the queues have turned, which is floor(now/D), read from the words.
 unfoldable pub turnsAt : List ℕ → ℕ
 turnsAt ws = word ws counterAt / word ws intervalAt
 
@@ -96,7 +96,7 @@ unfoldable pub linkWords : Link → List ℕ
 linkWords free = 0 ∷ 0 ∷ 0 ∷ 0 ∷ 0 ∷ []
 linkWords (carries p left) = left ∷ packetWords p
 
--- floor(now/D) of contents.
+-- How often the queues have turned, which is floor(now/D), of contents.
 unfoldable pub turnsOf : Box → ℕ
 turnsOf box = box .counter / box .settings .interval
 

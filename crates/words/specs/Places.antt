@@ -9,39 +9,51 @@ use lib.ListN.{getD}
 abbrev pub intervalAt : ℕ
 intervalAt = 0
 
+-- The word of the cycle M.
 abbrev pub cycleAt : ℕ
 cycleAt = intervalAt + 1
 
+-- The word of the number of classes P.
 abbrev pub classesAt : ℕ
 classesAt = cycleAt + 1
 
+-- The first word of the factors, of which there are places for 8.
 abbrev pub factorsAt : ℕ
 factorsAt = classesAt + 1
 
+-- The word of the number of connections.
 abbrev pub rowCountAt : ℕ
 rowCountAt = factorsAt + 8
 
+-- The first word of the connections' rows, 32 of 6 words.
 abbrev pub rowsAt : ℕ
 rowsAt = rowCountAt + 1
 
+-- The word of the slot counter.
 abbrev pub counterAt : ℕ
 counterAt = rowsAt + 192
 
+-- The word of the count of accepted packets.
 abbrev pub acceptedAt : ℕ
 acceptedAt = counterAt + 1
 
+-- The word of the units left on the link.
 abbrev pub leftAt : ℕ
 leftAt = acceptedAt + 1
 
+-- The first word of the packet on the link.
 abbrev pub linkAt : ℕ
 linkAt = leftAt + 1
 
+-- The first word of the lengths of the 64 queues, by place.
 abbrev pub lengthsAt : ℕ
 lengthsAt = linkAt + 4
 
+-- The first word of the waiting packets.
 abbrev pub packetsAt : ℕ
 packetsAt = lengthsAt + 64
 
+-- The number of words that a box takes.
 abbrev pub boxWords : ℕ
 boxWords = packetsAt + 4096
 

@@ -12,7 +12,7 @@ use Rattle.meaning.specs.Box.{sound}
 use Rattle.words.specs.Places.{boxWords, word, lengthsBelow, placeOf, intervalAt, classesAt, factorsAt, rowCountAt, rowsAt, leftAt, linkAt, lengthsAt, counterAt}
 use Rattle.words.specs.Contents.{contents, settingsAt, turnsAt}
 
--- n words from `start` on are 0.
+-- Whether n words from `start` on are 0.
 unfoldable pub zeros : List ℕ → ℕ → ℕ → Bool
 zeros ws start n = every (λ w. eqb w 0) (series (λ i. word ws i) 1 start n)
 
