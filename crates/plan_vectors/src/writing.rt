@@ -81,7 +81,7 @@ fn write_words(
     words_of(plan::tables::classes(plan, h), factors);
     words_of(plan::tables::connections(plan, h), connections);
     words_of(plan::tables::arrivals(plan, h), arrivals);
-    let w = plan::writing::write(
+    let w = plan_writer::writing::write(
         h.interval,
         h.cycle,
         &factors[..f],
@@ -116,7 +116,7 @@ fn write_into(factors: &[u32], connections: &[u32], arrivals: &[u32], out: &mut 
     if room > out.len() {
         return;
     }
-    let w = plan::writing::write(4, 8, factors, connections, arrivals, &mut out[..room]);
+    let w = plan_writer::writing::write(4, 8, factors, connections, arrivals, &mut out[..room]);
     show_written(w);
     if is_untouched(out) {
         say(b"KEPT\n");

@@ -9,7 +9,7 @@ use lib.ListN.{length, drop}
 use Rattle.meaning.specs.Plan.{wordsOf}
 use Rattle.plan.specs.Parts.{arrivalsIn}
 use Rattle.plan.specs.Entries.{length-table}
-use Rattle.plan.specs.Steps.{slotsGoodFrom, slots-next, slots-fall, slots-exceed, slots-end, slots-answer, slot-at}
+use Rattle.plan.proofs.Passes.{slotsGoodFrom, slots-next, slots-fall, slots-exceed, slots-end, slots-answer, slot-at}
 use Rattle.plan.proofs.reading.slots_wrong.Statement.{statement}
 use Rattle.plan.proofs.reading.slots_wrong.Tie as tie
 

@@ -2,7 +2,7 @@
 use native.Mathlib.Omega.{arith}
 use Prim.Native.Nat.{_+_, _*_}
 use Rattle.meaning.specs.Plan.{connectionAt}
-use Rattle.plan.specs.Words.{word-past}
+use Rattle.plan.proofs.WordLaws.{word-past}
 use borrow.Author.Needs.{needs}
 use Rattle.plan.proofs.tables.connection.Statement.{statement}
 use Rattle.plan.proofs.tables.connection.Tie as tie

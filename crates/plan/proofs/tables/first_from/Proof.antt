@@ -6,7 +6,7 @@ use lib.ListN.{length}
 use Rattle.meaning.specs.Plan.{wordsOf}
 use Rattle.plan.specs.Parts.{arrivalsIn, boundary}
 use Rattle.plan.specs.Entries.{length-table}
-use Rattle.plan.specs.Steps.{boundary-next, boundary-here, boundary-end, slot-at}
+use Rattle.plan.proofs.Passes.{boundary-next, boundary-here, boundary-end, slot-at}
 use Rattle.plan.proofs.tables.first_from.Statement.{statement}
 use Rattle.plan.proofs.tables.first_from.Tie as tie
 

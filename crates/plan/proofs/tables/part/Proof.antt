@@ -4,7 +4,7 @@ use borrow.Author.Tests.{le-leb, lt-leb}
 use native.Mathlib.Nat.{add-sub-cancel-left}
 use lib.ListN.{length}
 use Rattle.plan.specs.Parts.{partOf}
-use Rattle.plan.specs.Fitting.{entries-fit, entries-over}
+use Rattle.plan.proofs.Fitting.{entries-fit, entries-over}
 use native.Mathlib.Omega.{arith}
 use borrow.Author.Needs.{needs}
 use Rattle.plan.proofs.tables.part.Statement.{statement}

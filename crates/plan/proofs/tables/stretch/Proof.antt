@@ -2,7 +2,8 @@
 use Prim.Native.Nat.{_+_, _*_, _≤_}
 use native.Mathlib.Omega.{arith}
 use lib.ListN.{length}
-use Rattle.plan.specs.Stretch.{boundary-within, stretch-past, stretch-is}
+use Rattle.plan.specs.StretchPlaces.{boundary-within}
+use Rattle.plan.proofs.Stretch.{stretch-past, stretch-is}
 use borrow.Author.Needs.{needs}
 use Rattle.plan.proofs.tables.stretch.Statement.{statement}
 use Rattle.plan.proofs.tables.stretch.Tie as tie

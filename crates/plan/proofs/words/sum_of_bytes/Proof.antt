@@ -7,8 +7,8 @@ use native.Mathlib.Omega.{arith}
 use native.Mathlib.Nat.{zero-add}
 use borrow.Author.Needs.{needs}
 use Rattle.meaning.specs.Plan.{wordsOf, sumWords}
-use Rattle.plan.specs.Words.{length-wordsOf}
-use Rattle.plan.specs.Steps.{sumFrom, sum-step, sum-end}
+use Rattle.plan.proofs.WordLaws.{length-wordsOf}
+use Rattle.plan.proofs.Passes.{sumFrom, sum-step, sum-end}
 use Rattle.plan.proofs.words.sum_of_bytes.Statement.{statement}
 use Rattle.plan.proofs.words.sum_of_bytes.Tie as tie
 

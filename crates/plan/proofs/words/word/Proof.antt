@@ -2,7 +2,7 @@
 use denote.Ref.{now}
 use native.Mathlib.Omega.{arith}
 use Rattle.meaning.specs.Plan.{wordAt}
-use Rattle.plan.specs.Words.{word-within}
+use Rattle.plan.proofs.WordLaws.{word-within}
 use borrow.Author.Needs.{needs}
 use Rattle.plan.proofs.words.word.Statement.{statement}
 use Rattle.plan.proofs.words.word.Tie as tie

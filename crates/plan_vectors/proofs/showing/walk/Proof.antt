@@ -4,7 +4,7 @@ use Prim.Native.Nat.{_-_, _/_, _≤_}
 use native.Mathlib.Omega.{arith}
 use borrow.Author.Needs.{needs}
 use lib.ListN.{length}
-use Rattle.plan.specs.Stretch.{stretch-within}
+use Rattle.plan.specs.StretchPlaces.{stretch-within}
 use Rattle.plan_vectors.proofs.showing.walk.Statement.{statement}
 use Rattle.plan_vectors.proofs.showing.walk.Tie as tie
 

@@ -1,0 +1,39 @@
+-- Answers that satisfy one promise are the same, for each public function.
+use Prim.Native.Nat.{ℕ}
+use mathlib.Core.Path.{_≡_, sym, _∙_}
+use mathlib.Core.List.{List}
+use Rattle.meaning.specs.declared.Table.{Table}
+use Rattle.meaning.specs.declared.PlanRead.{PlanRead}
+use Rattle.meaning.specs.Plan.{wordsOf, factorAt, connectionAt, arrivalAt, readingAnswer}
+use Rattle.meaning.specs.declared.Connection.{Connection}
+use Rattle.meaning.specs.declared.Arrival.{Arrival}
+use Rattle.plan.specs.Parts.{partOf, arrivalsIn, boundary, stretchOf}
+
+-- what both answers equal settles them
+one : {A : Type 0} {a b c : A} → a ≡ c → b ≡ c → a ≡ b
+one p q = p ∙ sym q
+
+pub read-settled : (bytes : List ℕ) (r s : PlanRead) → r ≡ readingAnswer bytes → s ≡ readingAnswer bytes → r ≡ s
+read-settled bytes r s = one
+
+-- `classes`, `connections` and `arrivals`
+pub part-settled : (bytes : List ℕ) (t : Table) (width : ℕ) (r s : List ℕ) → r ≡ partOf bytes t width → s ≡ partOf bytes t width → r ≡ s
+part-settled bytes t width r s = one
+
+pub factor-settled : (bytes : List ℕ) (i r s : ℕ) → r ≡ factorAt (wordsOf bytes) i → s ≡ factorAt (wordsOf bytes) i → r ≡ s
+factor-settled bytes i r s = one
+
+pub connection-settled :
+    (bytes : List ℕ) (i : ℕ) (r s : Connection) → r ≡ connectionAt (wordsOf bytes) i → s ≡ connectionAt (wordsOf bytes) i → r ≡ s
+connection-settled bytes i r s = one
+
+pub arrival-settled :
+    (bytes : List ℕ) (i : ℕ) (r s : Arrival) → r ≡ arrivalAt (wordsOf bytes) i → s ≡ arrivalAt (wordsOf bytes) i → r ≡ s
+arrival-settled bytes i r s = one
+
+pub first-from-settled :
+    (bytes : List ℕ) (from limit r s : ℕ) → r ≡ boundary (arrivalsIn bytes) from limit → s ≡ boundary (arrivalsIn bytes) from limit → r ≡ s
+first-from-settled bytes from limit r s = one
+
+pub stretch-settled : (bytes : List ℕ) (from slot : ℕ) (r s : List ℕ) → r ≡ stretchOf bytes from slot → s ≡ stretchOf bytes from slot → r ≡ s
+stretch-settled bytes from slot r s = one

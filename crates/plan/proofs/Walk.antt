@@ -1,0 +1,31 @@
+-- The walk over the slots of a plan that reads well: each stretch is exactly the arrivals of its slot in the contents.
+use Prim.Native.Nat.{ℕ, _+_, _/_, _≤_}
+use mathlib.Core.Path.{_≡_, refl, ap, _∙_}
+use mathlib.Core.List.{List}
+use native.Mathlib.Nat.{le-refl}
+use lib.ListN.{length}
+use Rattle.meaning.specs.declared.Header.{Header}
+use Rattle.meaning.specs.Plan.{wordsOf, contentsOf, arrivalsOf}
+use Rattle.plan.specs.Parts.{partOf, arrivalsIn, leading, stretchOf}
+use Rattle.plan.proofs.Stretch.{stretch-holds, walk-on, walk-starts}
+use Rattle.plan.specs.Readable.{Readable}
+use Rattle.plan.proofs.Good.{arrivals-hold, never-falling}
+
+module _ (bytes : List ℕ) (h : Header) (r : Readable bytes h) where
+  -- the stretch of a slot, wherever it is looked for from among the arrivals before the slot
+  pub stretch-of-plan :
+      (from slot : ℕ) → from ≤ leading slot (contentsOf (wordsOf bytes) h .arrivals) →
+      arrivalsIn (stretchOf (partOf bytes (h .arrivals) 12) from slot) ≡ arrivalsOf slot (contentsOf (wordsOf bytes) h .arrivals)
+  stretch-of-plan from slot before =
+      let same = arrivals-hold bytes h r in
+      stretch-holds (partOf bytes (h .arrivals) 12) from slot (rw same before) (never-falling bytes h r) ∙ ap (arrivalsOf slot) same
+
+  -- the walk starts with no arrival passed over
+  pub walk-of-plan-starts : 0 ≡ leading 0 (contentsOf (wordsOf bytes) h .arrivals)
+  walk-of-plan-starts = walk-starts (partOf bytes (h .arrivals) 12) ∙ ap (leading 0) (arrivals-hold bytes h r)
+
+  -- and goes on by the number of entries of each stretch: all that is before the next slot is passed over
+  pub walk-of-plan-on :
+      (slot : ℕ) → leading slot (contentsOf (wordsOf bytes) h .arrivals) + length (stretchOf (partOf bytes (h .arrivals) 12) (leading slot (contentsOf (wordsOf bytes) h .arrivals)) slot) / 12 ≡
+      leading (slot + 1) (contentsOf (wordsOf bytes) h .arrivals)
+  walk-of-plan-on slot = rw (← arrivals-hold bytes h r) (walk-on (partOf bytes (h .arrivals) 12) (leading slot (arrivalsIn (partOf bytes (h .arrivals) 12))) slot (le-refl _) refl)
