@@ -13,25 +13,28 @@ abbrev pub Local : {A : Type 0} → (List ℕ → ℕ → A) → ℕ → Type 0
 Local entry width =
     (ws vs : List ℕ) (i j : ℕ) → ((k : ℕ) → k < width → getD ws (i + k) 0 ≡ getD vs (j + k) 0) → entry ws i ≡ entry vs j
 
--- the first of the words of an entry
+-- Entries whose first words are the same, counted from their own places, have the same word there.
 first-word : (ws vs : List ℕ) (i j : ℕ) → getD ws (i + 0) 0 ≡ getD vs (j + 0) 0 → getD ws i 0 ≡ getD vs j 0
 first-word ws vs i j e = ap (λ k. getD ws k 0) (omega arith) ∙ e ∙ ap (λ k. getD vs k 0) (omega arith)
 
+-- A factor depends on its one word.
 pub factor-local : Local factorAt 1
 unfolding factorAt
 factor-local ws vs i j e = first-word ws vs i j (e 0 (omega arith))
 
+-- A connection depends on its four words.
 pub connection-local : Local connectionAt 4
 unfolding connectionAt
 connection-local ws vs i j e =
     rw (first-word ws vs i j (e 0 (omega arith)), e 1 (omega arith), e 2 (omega arith), e 3 (omega arith))
 
+-- An arrival depends on its three words.
 pub arrival-local : Local arrivalAt 3
 unfolding arrivalAt
 arrival-local ws vs i j e = rw (first-word ws vs i j (e 0 (omega arith)), e 1 (omega arith), e 2 (omega arith))
 
 module _ {A : Type 0} (entry : List ℕ → ℕ → A) (width : ℕ) where
-  -- the same words give the same table
+  -- The same words give the same table.
   pub table-same :
       Local entry width →
       (ws vs : List ℕ) (i j n : ℕ) → ((k : ℕ) → k < width * n → getD ws (i + k) 0 ≡ getD vs (j + k) 0) → table entry width ws i n ≡
@@ -45,6 +48,7 @@ module _ {A : Type 0} (entry : List ℕ → ℕ → A) (width : ℕ) where
       e (width + k) (omega (arith, mul-suc width n)) ∙
       ap (λ m. getD vs m 0) (omega arith)))
 
+  -- A table without its first m entries starts m entries further on.
   pub drop-table : (ws : List ℕ) (i n m : ℕ) → drop m (table entry width ws i n) ≡ table entry width ws (i + width * m) (n - m)
   unfolding table
   drop-table ws i n zero =

@@ -14,7 +14,8 @@ use Rattle.meaning.specs.declared.Header.{Header}
 use Rattle.meaning.specs.declared.Table.{Table}
 use Rattle.meaning.specs.declared.PlanRead.{PlanRead}
 use Rattle.meaning.specs.declared.Arrival.{Arrival}
-use Rattle.meaning.specs.Plan.{wordsOf, headerOf, contentsOf, sizeWrong, sumWrong, layoutWrong, slotsWrong, neverFallingFrom, readingAnswer, table, factorAt, connectionAt, arrivalAt}
+use Rattle.meaning.specs.Plan.{wordsOf, headerOf, contentsOf, sizeWrong, sumWrong, layoutWrong, slotsWrong, neverFallingFrom, readingAnswer}
+use Rattle.meaning.specs.Plan.{table, factorAt, connectionAt, arrivalAt}
 use Rattle.plan.proofs.EntryLaws.{Local, factor-local, connection-local, arrival-local}
 use Rattle.plan.specs.Entries.{getD-table}
 use Rattle.plan.specs.Parts.{partOf, arrivalsIn}
@@ -30,6 +31,7 @@ refuses PlanRead.WrongSum = true
 refuses PlanRead.WrongLayout = true
 refuses PlanRead.WrongSlots = true
 
+-- A plan whose header was answered passed every test.
 pub read-facts : (bytes : List ℕ) (h : Header) → readingAnswer bytes ≡ PlanRead.Good h → Readable bytes h
 unfolding slotsWrongIn
 read-facts bytes h good =
@@ -64,24 +66,25 @@ read-facts bytes h good =
           slots = rw e d;
         }
 
+-- A plan that passes every test has its header answered.
 pub read-back : (bytes : List ℕ) (h : Header) → Readable bytes h → readingAnswer bytes ≡ PlanRead.Good h
 unfolding slotsWrongIn
 read-back bytes h r =
     sym (answer-0 bytes h (r .header) (r .sized) (r .summed) (layout-right (length bytes) h (r .laid)) (r .slots))
 
--- the slots of arrivals that pass the test never fall
+-- The slots of arrivals that pass the test never fall.
 pub rising : (l : List Arrival) → slotsWrong l ≡ false → neverFallingFrom 0 l ≡ true
 unfolding slotsWrong
 rising l e = and-eq-true-iff (neverFallingFrom 0 l) _ .0 (not-false _ e) .0
 
--- "Then the tables without gaps": each table is the part of the plan from its offset on, and its entries are the contents
+-- "Then the tables without gaps": each table is the part of the plan from its offset on, and its entries are the contents.
 module _ (bytes : List ℕ) (h : Header) (r : Readable bytes h) where
-  -- a part that lies in the plan
+  -- A part that lies in the plan is the bytes from its offset on.
   part-is : (t : Table) (width : ℕ) → t .start + width * t .count ≤ length bytes → partOf bytes t width ≡ take (width * t .count) (drop (t .start) bytes)
   unfolding partOf
   part-is t width l = rw (le-leb _ _ l)
 
-  -- the entries in the part of a table are those that stand in the plan
+  -- The entries in the part of a table are those that stand in the plan.
   part-holds :
       {A : Type 0} (entry : List ℕ → ℕ → A) (width : ℕ) → Local entry width →
       (t : Table) (a : ℕ) → t .start ≡ 4 * a → t .start + 4 * width * t .count ≤ length bytes →
@@ -94,11 +97,13 @@ module _ (bytes : List ℕ) (h : Header) (r : Readable bytes h) where
       part-table entry width own bytes a (t .count) (omega (arith, n)) ∙
       ap (λ i. table entry width (wordsOf bytes) i (t .count)) at
 
+  -- The part of the class table holds the factors of the contents.
   pub classes-hold :
       table factorAt 1 (wordsOf (partOf bytes (h .classes) 4)) 0 (h .classes .count) ≡ contentsOf (wordsOf bytes) h .settings .factors
   unfolding contentsOf
   classes-hold = let l = r .laid in part-holds factorAt 1 factor-local (h .classes) 10 (omega arith) (omega arith)
 
+  -- The part of the connection table holds the connections of the contents.
   pub connections-hold :
       table connectionAt 4 (wordsOf (partOf bytes (h .connections) 16)) 0 (h .connections .count) ≡ contentsOf (wordsOf bytes) h .connections
   unfolding contentsOf
@@ -106,6 +111,7 @@ module _ (bytes : List ℕ) (h : Header) (r : Readable bytes h) where
       let l = r .laid in
       part-holds connectionAt 4 connection-local (h .connections) (10 + h .classes .count) (omega arith) (omega arith)
 
+  -- The part of the arrival table holds the arrivals of the contents.
   pub arrivals-hold : arrivalsIn (partOf bytes (h .arrivals) 12) ≡ contentsOf (wordsOf bytes) h .arrivals
   unfolding contentsOf arrivalsIn
   arrivals-hold =
@@ -120,11 +126,11 @@ module _ (bytes : List ℕ) (h : Header) (r : Readable bytes h) where
           h .arrivals .start + 12 * h .arrivals .count ≤ length bytes → length (take (12 * h .arrivals .count) (drop (h .arrivals .start) bytes)) / 12 ≡ h .arrivals .count
       counted l = simp (length-take, length-drop) (omega arith)
 
-  -- the slots of the arrival table never fall, and none exceeds the largest
+  -- The slots of the arrival table never fall, and none exceeds the largest.
   pub never-falling : neverFallingFrom 0 (arrivalsIn (partOf bytes (h .arrivals) 12)) ≡ true
   never-falling = ap (neverFallingFrom 0) arrivals-hold ∙ rising (contentsOf (wordsOf bytes) h .arrivals) (r .slots)
 
-  -- an entry by its number, counted from 0, is that entry of the contents
+  -- An entry by its number, counted from 0, is that entry of the contents.
   entry-holds :
       {A : Type 0} (entry : List ℕ → ℕ → A) (width : ℕ) (part : List ℕ) (n i : ℕ) (l : List A) (d : A) → i < n → table entry width (wordsOf part) 0 n ≡ l → entry (wordsOf part) (width * i) ≡ getD l i d
   entry-holds entry width part n i l d below e =
@@ -133,6 +139,7 @@ module _ (bytes : List ℕ) (h : Header) (r : Readable bytes h) where
       sym (getD-table entry width (wordsOf part) 0 n i d below) ∙
       ap (λ m. getD m i d) e
 
+  -- A factor by its number, in the part of the class table, is that factor of the contents.
   pub factor-holds :
       (i : ℕ) → i < h .classes .count → factorAt (wordsOf (partOf bytes (h .classes) 4)) i ≡ getD (contentsOf (wordsOf bytes) h .settings .factors) i 0
   factor-holds i below =
@@ -140,6 +147,7 @@ module _ (bytes : List ℕ) (h : Header) (r : Readable bytes h) where
       ap (factorAt (wordsOf (partOf bytes (h .classes) 4))) at ∙
       entry-holds factorAt 1 (partOf bytes (h .classes) 4) (h .classes .count) i (contentsOf (wordsOf bytes) h .settings .factors) 0 below classes-hold
 
+  -- A connection by its number, in the part of the connection table, is that connection of the contents.
   pub connection-holds :
       (i : ℕ) (d : Connection) → i < h .connections .count → connectionAt (wordsOf (partOf bytes (h .connections) 16)) (4 * i) ≡ getD (contentsOf (wordsOf bytes) h .connections) i d
   connection-holds i d below =

@@ -13,10 +13,11 @@ use Rattle.plan.proofs.EntryLaws.{Local, table-same, arrival-local}
 use Rattle.plan.specs.Parts.{arrivalsIn}
 use Rattle.plan.specs.Readable.{Layout}
 
--- a conjunction's two parts
+-- A conjunction that holds has two parts that hold.
 pub both : (a b : Bool) → (a && b) ≡ true → (a ≡ true) × (b ≡ true)
 both a b e = and-eq-true-iff a b .0 e
 
+-- What passes the test of the layout is laid out right, count by count and offset by offset.
 pub layout-facts : (size : ℕ) (h : Header) → layoutWrong size h ≡ false → Layout size h
 unfolding layoutWrong countsAllowed
 layout-facts size h e =
@@ -36,13 +37,14 @@ layout-facts size h e =
       ends = eqb-true _ _ (p .1);
     }
 
+-- What is laid out right passes the test of the layout.
 pub layout-right : (size : ℕ) (h : Header) → Layout size h → layoutWrong size h ≡ false
 unfolding layoutWrong countsAllowed
 layout-right size h l =
     rw
     (le-leb _ _ (l .classes-few), le-leb _ _ (l .connections-few), le-leb _ _ (l .arrivals-few), eq-eqb _ _ (l .classes-at), eq-eqb _ _ (l .connections-at), eq-eqb _ _ (l .arrivals-at), eq-eqb _ _ (l .ends))
 
--- a table in a part of the bytes is the table in the whole, from the word on at which the part starts
+-- A table in a part of the bytes is the table in the whole, from the word on at which the part starts.
 pub part-table :
     {A : Type 0} (entry : List ℕ → ℕ → A) (width : ℕ) → Local entry width →
     (bytes : List ℕ) (a n : ℕ) → 4 * a + 4 * (width * n) ≤ length bytes → table entry width (wordsOf (take (4 * (width * n)) (drop (4 * a) bytes))) 0 n ≡
@@ -51,7 +53,7 @@ part-table entry width own bytes a n h =
     table-same entry width own (wordsOf (take (4 * (width * n)) (drop (4 * a) bytes))) (wordsOf bytes) 0 a n (λ k l.
     ap (λ i. getD (wordsOf (take (4 * (width * n)) (drop (4 * a) bytes))) i 0) (omega arith) ∙ word-of-part bytes a (width * n) k h l)
 
--- the arrivals in the end of a plan are those of its arrival table
+-- The arrivals in the end of a plan are those of its arrival table.
 pub arrivals-of-rest :
     (bytes : List ℕ) (h : Header) → Layout (length bytes) h → arrivalsIn (take (length bytes - h .arrivals .start) (drop (h .arrivals .start) bytes)) ≡
     table arrivalAt 3 (wordsOf bytes) (h .arrivals .start / 4) (h .arrivals .count)

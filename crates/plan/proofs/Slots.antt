@@ -14,18 +14,19 @@ use Rattle.meaning.specs.declared.Arrival.{Arrival}
 use Rattle.meaning.specs.Plan.{neverFallingFrom, arrivalsOf}
 use Rattle.plan.specs.Parts.{leading}
 
--- a list that never falls: its first slot, and the rest
+-- A list that never falls has its first slot in order, and its rest never falls from there.
 falls-not : (low : ℕ) (a : Arrival) (l : List Arrival) → neverFallingFrom low (a ∷ l) ≡ true → (low ≤ a .slot) × (neverFallingFrom (a .slot) l ≡ true)
 unfolding neverFallingFrom
 falls-not low a l e =
     let h = and-eq-true-iff (leb low (a .slot)) (neverFallingFrom (a .slot) l) .0 e in
     (leb-true _ _ (h .0), h .1)
 
+-- A list that never falls from its first slot never falls from anything below that slot.
 falls-anew : (low : ℕ) (a : Arrival) (l : List Arrival) → low ≤ a .slot → neverFallingFrom (a .slot) l ≡ true → neverFallingFrom low (a ∷ l) ≡ true
 unfolding neverFallingFrom
 falls-anew low a l h e = and-eq-true-iff (leb low (a .slot)) (neverFallingFrom (a .slot) l) .1 (le-leb low (a .slot) h, e)
 
--- it never falls from anything lower
+-- A list that never falls from a slot never falls from anything lower.
 falls-lower : (low lower : ℕ) (l : List Arrival) → lower ≤ low → neverFallingFrom low l ≡ true → neverFallingFrom lower l ≡ true
 unfolding neverFallingFrom
 falls-lower low lower [] h e = refl
@@ -33,25 +34,27 @@ falls-lower low lower (a ∷ l) h e =
     let f = falls-not low a l e in
     falls-anew lower a l (omega arith) (f .1)
 
--- the steps of `leading`
+-- An arrival before the limit is one more of the leading ones.
 leads : (limit : ℕ) (a : Arrival) (l : List Arrival) → a .slot < limit → leading limit (a ∷ l) ≡ suc (leading limit l)
 unfolding leading
 leads limit a l h = rw (lt-ltb _ _ h)
 
+-- An arrival at the limit or after it ends the leading ones.
 stops : (limit : ℕ) (a : Arrival) (l : List Arrival) → limit ≤ a .slot → leading limit (a ∷ l) ≡ 0
 unfolding leading
 stops limit a l h = rw (le-ltb _ _ h)
 
--- the steps of `arrivalsOf`
+-- An arrival of the slot is kept.
 kept : (slot : ℕ) (a : Arrival) (l : List Arrival) → a .slot ≡ slot → arrivalsOf slot (a ∷ l) ≡ a ∷ arrivalsOf slot l
 unfolding arrivalsOf keep
 kept slot a l h = rw (eq-eqb _ _ h)
 
+-- An arrival of another slot is passed over.
 passed : (slot : ℕ) (a : Arrival) (l : List Arrival) → (a .slot ≡ slot → ⊥) → arrivalsOf slot (a ∷ l) ≡ arrivalsOf slot l
 unfolding arrivalsOf keep
 passed slot a l h = rw (ne-eqb _ _ h)
 
--- past the slot there is none of it
+-- Past the slot there is no arrival of it.
 none-later : (slot low : ℕ) (l : List Arrival) → slot < low → neverFallingFrom low l ≡ true → arrivalsOf slot l ≡ []
 unfolding arrivalsOf keep
 none-later slot low [] h e = refl
@@ -59,7 +62,7 @@ none-later slot low (a ∷ l) h e =
     let f = falls-not low a l e in
     passed slot a l (λ q. omega arith) ∙ none-later slot (a .slot) l (omega arith) (f .1)
 
--- from the slot on, those of it are the leading ones
+-- From the slot on, the arrivals of the slot are the leading ones.
 pub slot-first :
     (slot : ℕ) (l : List Arrival) → neverFallingFrom slot l ≡ true → arrivalsOf slot l ≡ take (leading (slot + 1) l) l
 unfolding arrivalsOf keep leading
@@ -81,7 +84,7 @@ slot-first slot (a ∷ l) e = by (decLe (a .slot) slot) (slot-first slot l)
         none-later slot (a .slot) l (omega arith) (f .1) ∙
         ap (λ k. take k (a ∷ l)) (sym (stops (slot + 1) a l (omega arith)))
 
--- behind all earlier ones, those of the slot are the leading ones
+-- Behind all earlier arrivals, those of the slot are the leading ones.
 pub slot-together :
     (slot low : ℕ) (l : List Arrival) → neverFallingFrom low l ≡ true → arrivalsOf slot l ≡
     take (leading (slot + 1) (drop (leading slot l) l)) (drop (leading slot l) l)
@@ -103,7 +106,7 @@ slot-together slot low (a ∷ l) e = by (decLe slot (a .slot)) (slot-together sl
         ih ∙
         ap (λ k. take (leading (slot + 1) (drop k (a ∷ l))) (drop k (a ∷ l))) (sym (leads slot a l (omega arith)))
 
--- those before the slot, and those of it, are those before the next one
+-- The arrivals before the slot, and those of it, are those before the next slot.
 pub leading-next : (slot : ℕ) (l : List Arrival) → leading slot l + leading (slot + 1) (drop (leading slot l) l) ≡ leading (slot + 1) l
 unfolding leading
 leading-next slot [] = omega arith
@@ -117,7 +120,7 @@ leading-next slot (a ∷ l) = by (decLe slot (a .slot)) (leading-next slot l)
         ap (λ k. k + leading (slot + 1) (drop k (a ∷ l))) (leads slot a l (omega arith)) ∙
         omega (arith, ih, leads (slot + 1) a l (omega arith))
 
--- passing over some of those before a limit changes nothing: the boundary is where it is
+-- Passing over some of those before a limit changes nothing: the boundary is where it is.
 pub leading-passed : (limit from : ℕ) (l : List Arrival) → from ≤ leading limit l → from + leading limit (drop from l) ≡ leading limit l
 unfolding leading
 leading-passed limit zero l h = omega arith
@@ -132,7 +135,7 @@ leading-passed limit (suc from) (a ∷ l) h = by (decLe limit (a .slot)) (leadin
         let g : suc from ≤ suc (leading limit l) = rw e at h in
         omega (arith, ih (omega arith), e)
 
--- before slot 0 there is none
+-- No arrival is before slot 0.
 pub leading-none : (l : List Arrival) → leading 0 l ≡ 0
 unfolding leading
 leading-none [] = refl

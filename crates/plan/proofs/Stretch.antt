@@ -14,7 +14,7 @@ use Rattle.plan.proofs.Slots.{slot-together, leading-next, leading-pass
 use Rattle.plan.proofs.Passes.{boundary-end}
 use Rattle.plan.specs.StretchPlaces.{leading-within, length-arrivalsIn, lies, length-stretch}
 
--- past the last entry there is no stretch
+-- Past the last entry there is no stretch.
 pub stretch-past : (bytes : List ℕ) (from slot : ℕ) → length bytes / 12 < from → [] ≡ stretchOf bytes from slot
 unfolding stretchOf stretchEnd stretchStart
 stretch-past bytes from slot h =
@@ -22,7 +22,7 @@ stretch-past bytes from slot h =
     let none : 12 * (from - from) ≡ 0 = omega arith in
     rw (boundary-end (arrivalsIn bytes) from slot past, boundary-end (arrivalsIn bytes) from (slot + 1) past, none)
 
--- the stretch, from its two boundaries
+-- The bytes between the two boundaries are the stretch.
 pub stretch-is :
     (bytes : List ℕ) (from slot first after : ℕ) → first ≡ boundary (arrivalsIn bytes) from slot → after ≡ boundary (arrivalsIn bytes) first (slot + 1) →
     take (12 * after - 12 * first) (drop (12 * first) bytes) ≡ stretchOf bytes from slot
@@ -31,7 +31,7 @@ stretch-is bytes from slot first after e f =
     let g : 12 * after - 12 * first ≡ 12 * (after - first) = omega arith in
     rw (g, f, e)
 
--- an entry by its number is the arrival of that number
+-- An entry by its number is the arrival of that number.
 pub arrival-of-table :
     (bytes : List ℕ) (i : ℕ) → i < length bytes / 12 → arrivalAt (wordsOf bytes) (3 * i) ≡ getD (arrivalsIn bytes) i noArrival
 unfolding arrivalsIn
@@ -39,7 +39,7 @@ arrival-of-table bytes i h =
     sym
     (getD-table arrivalAt 3 (wordsOf bytes) 0 (length bytes / 12) i noArrival h ∙ ap (arrivalAt (wordsOf bytes)) (omega arith))
 
--- the arrivals in a part of whole entries
+-- The arrivals in a part of whole entries are those arrivals of the whole.
 pub arrivals-of-part :
     (bytes : List ℕ) (a n : ℕ) → 12 * a + 12 * n ≤ length bytes → arrivalsIn (take (12 * n) (drop (12 * a) bytes)) ≡
     take n (drop a (arrivalsIn bytes))
@@ -58,7 +58,7 @@ arrivals-of-part bytes a n h =
     take-table arrivalAt 3 (wordsOf bytes) (0 + 3 * a) (length bytes / 12 - a) n (omega arith))
 
 module _ (bytes : List ℕ) (from slot : ℕ) (inside : from ≤ length bytes / 12) where
-  -- the entries that it holds
+  -- The stretch holds the entries from its start up to its end.
   pub stretch-entries :
       arrivalsIn (stretchOf bytes from slot) ≡
       take (stretchEnd bytes from slot - stretchStart bytes from slot) (drop (stretchStart bytes from slot) (arrivalsIn bytes))
@@ -69,19 +69,22 @@ module _ (bytes : List ℕ) (from slot : ℕ) (inside : from ≤ length bytes / 
 
 -- Where no slot falls, and no more is passed over than what is before the slot:
 module _ (bytes : List ℕ) (from slot : ℕ) (before : from ≤ leading slot (arrivalsIn bytes)) where
+  -- The entry that the stretch is looked for from lies in the table.
   inside : from ≤ length bytes / 12
   inside = omega (arith, leading-within slot (arrivalsIn bytes), length-arrivalsIn bytes)
 
+  -- The stretch starts behind all arrivals before the slot.
   starts : stretchStart bytes from slot ≡ leading slot (arrivalsIn bytes)
   unfolding stretchStart boundary
   starts = leading-passed slot from (arrivalsIn bytes) before
 
+  -- The stretch ends behind all arrivals before the next slot.
   ends : stretchEnd bytes from slot ≡ leading (slot + 1) (arrivalsIn bytes)
   unfolding stretchEnd boundary
   ends =
       ap (λ k. k + leading (slot + 1) (drop k (arrivalsIn bytes))) starts ∙ leading-next slot (arrivalsIn bytes)
 
-  -- "The arrivals of one slot are handed back", all of them and nothing else
+  -- "The arrivals of one slot are handed back": all of them and nothing else.
   pub stretch-holds :
       neverFallingFrom 0 (arrivalsIn bytes) ≡ true → arrivalsIn (stretchOf bytes from slot) ≡ arrivalsOf slot (arrivalsIn bytes)
   stretch-holds e =
@@ -92,12 +95,12 @@ module _ (bytes : List ℕ) (from slot : ℕ) (before : from ≤ leading slot (a
       ap (λ n. take n (drop (leading slot l) l)) some ∙
       sym (slot-together slot 0 l e)
 
-  -- who has passed over all that is before the slot and adds the stretch has passed over all that is before the next slot
+  -- Who has passed over all that is before the slot and adds the stretch has passed over all that is before the next slot.
   pub walk-on : from ≡ leading slot (arrivalsIn bytes) → from + length (stretchOf bytes from slot) / 12 ≡ leading (slot + 1) (arrivalsIn bytes)
   walk-on e =
       let l = length-stretch bytes from slot inside in
       omega (arith, starts, ends, leading-next slot (arrivalsIn bytes))
 
--- the walk starts with nothing passed over
+-- The walk starts with nothing passed over.
 pub walk-starts : (bytes : List ℕ) → 0 ≡ leading 0 (arrivalsIn bytes)
 walk-starts bytes = sym (leading-none (arrivalsIn bytes))

@@ -12,7 +12,7 @@ use Rattle.plan.specs.Readable.{Readable}
 use Rattle.plan.proofs.Good.{arrivals-hold, never-falling}
 
 module _ (bytes : List ℕ) (h : Header) (r : Readable bytes h) where
-  -- the stretch of a slot, wherever it is looked for from among the arrivals before the slot
+  -- The stretch of a slot holds its arrivals, wherever it is looked for from among those before the slot.
   pub stretch-of-plan :
       (from slot : ℕ) → from ≤ leading slot (contentsOf (wordsOf bytes) h .arrivals) →
       arrivalsIn (stretchOf (partOf bytes (h .arrivals) 12) from slot) ≡ arrivalsOf slot (contentsOf (wordsOf bytes) h .arrivals)
@@ -20,11 +20,11 @@ module _ (bytes : List ℕ) (h : Header) (r : Readable bytes h) where
       let same = arrivals-hold bytes h r in
       stretch-holds (partOf bytes (h .arrivals) 12) from slot (rw same before) (never-falling bytes h r) ∙ ap (arrivalsOf slot) same
 
-  -- the walk starts with no arrival passed over
+  -- The walk starts with no arrival passed over.
   pub walk-of-plan-starts : 0 ≡ leading 0 (contentsOf (wordsOf bytes) h .arrivals)
   walk-of-plan-starts = walk-starts (partOf bytes (h .arrivals) 12) ∙ ap (leading 0) (arrivals-hold bytes h r)
 
-  -- and goes on by the number of entries of each stretch: all that is before the next slot is passed over
+  -- The walk goes on by the number of entries of each stretch: all that is before the next slot is passed over.
   pub walk-of-plan-on :
       (slot : ℕ) → leading slot (contentsOf (wordsOf bytes) h .arrivals) + length (stretchOf (partOf bytes (h .arrivals) 12) (leading slot (contentsOf (wordsOf bytes) h .arrivals)) slot) / 12 ≡
       leading (slot + 1) (contentsOf (wordsOf bytes) h .arrivals)

@@ -9,11 +9,13 @@ use Rattle.meaning.specs.Plan.{table}
 use Rattle.meaning.specs.Numbers
 
 module _ {A : Type 0} (entry : List ℕ → ℕ → A) (width : ℕ) where
+  -- A table has as many entries as it is read with.
   pub length-table : (ws : List ℕ) (i n : ℕ) → length (table entry width ws i n) ≡ n
   unfolding table
   length-table ws i zero = refl
   length-table ws i (suc n) = ap suc (length-table ws (i + width) n)
 
+  -- An entry by its number stands so many widths behind the start of the table.
   pub getD-table : (ws : List ℕ) (i n k : ℕ) (d : A) → k < n → getD (table entry width ws i n) k d ≡ entry ws (i + width * k)
   unfolding table
   getD-table ws i zero k d h = absurd (not-suc-le-zero h)
@@ -21,6 +23,7 @@ module _ {A : Type 0} (entry : List ℕ → ℕ → A) (width : ℕ) where
   getD-table ws i (suc n) (suc k) d h =
       getD-table ws (i + width) n k d (omega arith) ∙ ap (entry ws) (omega (arith, mul-suc width k))
 
+  -- The first entries of a table are the table of so many entries.
   pub take-table : (ws : List ℕ) (i n m : ℕ) → m ≤ n → take m (table entry width ws i n) ≡ table entry width ws i m
   unfolding table
   take-table ws i n zero h = refl

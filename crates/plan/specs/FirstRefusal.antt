@@ -14,9 +14,10 @@ readingOf a b c d = cond a 13 (cond b 14 (cond c 15 (cond d 16 0)))
 unfoldable pub readingNumber : List ℕ → ℕ
 readingNumber bytes = planRead (readingAnswer bytes) .number
 
--- The test of the layout and the test of the slots, by the plan's own header.
+-- The test of the layout, by the plan's own header.
 abbrev pub layoutOff : List ℕ → Bool
 layoutOff bytes = layoutWrong (length bytes) (headerOf (wordsOf bytes))
 
+-- The test of the slots, by the plan's own header.
 abbrev pub slotsOff : List ℕ → Bool
 slotsOff bytes = slotsWrong (contentsOf (wordsOf bytes) (headerOf (wordsOf bytes)) .arrivals)

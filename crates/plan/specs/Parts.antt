@@ -30,10 +30,11 @@ leading limit (a ∷ l) = cond (ltb (a .slot) limit) (suc (leading limit l)) 0
 unfoldable pub boundary : List Arrival → ℕ → ℕ → ℕ
 boundary l from limit = from + leading limit (drop from l)
 
--- Where the stretch of a slot starts and where it ends, in entries.
+-- Where the stretch of a slot starts, in entries.
 unfoldable pub stretchStart : List ℕ → ℕ → ℕ → ℕ
 stretchStart bytes from slot = boundary (arrivalsIn bytes) from slot
 
+-- Where the stretch of a slot ends, in entries.
 unfoldable pub stretchEnd : List ℕ → ℕ → ℕ → ℕ
 stretchEnd bytes from slot = boundary (arrivalsIn bytes) (stretchStart bytes from slot) (slot + 1)
 

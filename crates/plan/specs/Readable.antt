@@ -5,7 +5,8 @@ use mathlib.Core.Bool.{Bool, false}
 use mathlib.Core.List.{List}
 use lib.ListN.{length}
 use Rattle.meaning.specs.declared.Header.{Header}
-use Rattle.meaning.specs.Plan.{wordsOf, classesStart, connectionsStart, arrivalsStart, planSize, headerOf, contentsOf, sizeWrong, sumWrong, slotsWrong}
+use Rattle.meaning.specs.Plan.{wordsOf, classesStart, connectionsStart, arrivalsStart, planSize, headerOf, contentsOf, sizeWrong, sumWrong}
+use Rattle.meaning.specs.Plan.{slotsWrong}
 
 -- Counts that are allowed and offsets that leave no gap, in a plan of this size.
 pub record Layout (size : ℕ) (h : Header) : Type 0 where

@@ -9,7 +9,8 @@ use lib.Seq.{drop-cons, drop-drop, take-add, take-all}
 use borrow.Author.Tests.{ltb-false, eqb-true, not-false}
 use Rattle.laws.specs.Sums.{sumOf}
 use Rattle.meaning.specs.declared.Header.{Header}
-use Rattle.meaning.specs.Plan.{wordsOf, wordAt, headerOf, contentsOf, factorAt, connectionAt, arrivalAt, tableWords, headerWords, sumWord, sumWords, sumWrong, planWords, planBytes, planSize, connectionsStart, arrivalsStart, sizeOf, sizeWrong}
+use Rattle.meaning.specs.Plan.{wordsOf, wordAt, headerOf, contentsOf, factorAt, connectionAt, arrivalAt, tableWords, headerWords, sumWord}
+use Rattle.meaning.specs.Plan.{sumWords, sumWrong, planWords, planBytes, planSize, connectionsStart, arrivalsStart, sizeOf, sizeWrong}
 use Rattle.plan_writer.specs.Bytes.{bytesOfWords}
 use Rattle.plan.specs.Entries.{length-table}
 use Rattle.plan_writer.proofs.TableWords.{factors-back, connections-back, arrivals-back}
@@ -26,10 +27,12 @@ pub record Sized (bytes : List ℕ) : Type 0 where
   pub whole : length bytes % 4 ≡ 0
   pub first : getD (wordsOf bytes) 0 0 ≡ length bytes
 
+-- Where not one of two tests refuses, neither does.
 neither : (a b : Bool) → (a || b) ≡ false → (a ≡ false) × (b ≡ false)
 neither true b e = absurd (true≢false e)
 neither false b e = (refl, e)
 
+-- Bytes that pass the test of the size are of a right size.
 pub size-facts : (bytes : List ℕ) → sizeWrong bytes ≡ false → Sized bytes
 unfolding sizeWrong
 size-facts bytes e =
@@ -43,26 +46,28 @@ size-facts bytes e =
       first = eqb-true _ _ (not-false _ (p .1));
     }
 
+-- Words that pass the test of the sum have the sum 0.
 pub sum-facts : (ws : List ℕ) → sumWrong ws ≡ false → sumWords ws ≡ 0
 unfolding sumWrong
 sum-facts ws e = eqb-true _ _ (not-false _ e)
 
--- bytes below 256 make words below 2^32
+-- Bytes below 256 make words below 2^32.
 pub words-below : (bytes : List ℕ) → ((i : ℕ) → getD bytes i 0 < 256) → (i : ℕ) → i < length bytes / 4 → getD (wordsOf bytes) i 0 < 2 ^ 32
 unfolding wordAt
 words-below bytes small i h =
     omega (arith, word-within bytes i h, small (4 * i), small (4 * i + 1), small (4 * i + 2), small (4 * i + 3))
 
--- the nine words up to the sum word
+-- The nine words up to the sum word.
 abbrev nine : List ℕ → List ℕ
 nine ws =
     getD ws 0 0 ∷ getD ws 1 0 ∷ getD ws 2 0 ∷ getD ws 3 0 ∷ getD ws 4 0 ∷ getD ws 5 0 ∷ getD ws 6 0 ∷ getD ws 7 0 ∷ getD ws 8 0 ∷ []
 
+-- Ten words or more are the nine, the sum word and the rest.
 ten-and-on : (ws : List ℕ) → 10 ≤ length ws → ws ≡ nine ws ++ (getD ws 9 0 ∷ drop 10 ws)
 ten-and-on ws h =
     drop-cons ws 0 0 (omega arith) ∙ ap (λ l. getD ws 0 0 ∷ l) (drop-cons ws 1 0 (omega arith) ∙ ap (λ l. getD ws 1 0 ∷ l) (drop-cons ws 2 0 (omega arith) ∙ ap (λ l. getD ws 2 0 ∷ l) (drop-cons ws 3 0 (omega arith) ∙ ap (λ l. getD ws 3 0 ∷ l) (drop-cons ws 4 0 (omega arith) ∙ ap (λ l. getD ws 4 0 ∷ l) (drop-cons ws 5 0 (omega arith) ∙ ap (λ l. getD ws 5 0 ∷ l) (drop-cons ws 6 0 (omega arith) ∙ ap (λ l. getD ws 6 0 ∷ l) (drop-cons ws 7 0 (omega arith) ∙ ap (λ l. getD ws 7 0 ∷ l) (drop-cons ws 8 0 (omega arith) ∙ ap (λ l. getD ws 8 0 ∷ l) (drop-cons ws 9 0 (omega arith))))))))))
 
--- the sum word is the one that the others ask for
+-- The sum word is the one that the others ask for.
 sum-again : (start rest : List ℕ) (w : ℕ) → w < 2 ^ 32 → sumWords (start ++ (w ∷ rest)) ≡ 0 → sumWord (start ++ rest) ≡ w
 unfolding sumWords sumWord sumOf
 sum-again start rest w h e =
@@ -70,19 +75,19 @@ sum-again start rest w h e =
     omega (arith, sum-append (λ w. w) start (w ∷ rest), sum-append (λ w. w) start rest) in
     sum-solved (sumOf (λ x. x) (start ++ rest)) w h (ap (λ n. n % 2 ^ 32) (sym t) ∙ e)
 
--- nine words that are the same, one by one
+-- Nine words that are the same one by one are the same list.
 same-nine :
     {a b c d e f g h i a' b' c' d' e' f' g' h' i' : ℕ} → a ≡ a' → b ≡ b' → c ≡ c' → d ≡ d' → e ≡ e' → f ≡ f' → g ≡ g' → h ≡ h' → i ≡ i' →
     _≡_ {A = List ℕ} (a ∷ b ∷ c ∷ d ∷ e ∷ f ∷ g ∷ h ∷ i ∷ []) (a' ∷ b' ∷ c' ∷ d' ∷ e' ∷ f' ∷ g' ∷ h' ∷ i' ∷ [])
 same-nine p₀ p₁ p₂ p₃ p₄ p₅ p₆ p₇ p₈ = cc
 
--- a list in three parts
+-- A list is its three parts, one behind another.
 three-parts : (l : List ℕ) (n m p : ℕ) → length l ≤ n + m + p → take n l ++ take m (drop n l) ++ take p (drop (n + m) l) ≡ l
 three-parts l n m p h =
     ap (λ x. x ++ take p (drop (n + m) l)) (sym (take-add n m l)) ∙ sym (take-add (n + m) p l) ∙ take-all (n + m + p) l h
 
 module _ (ws : List ℕ) (h : Header) (laid : Layout (4 * length ws) h) where
-  -- the words of the three tables are all that stands behind the header
+  -- The words of the three tables are all that stands behind the header.
   tables-again : tableWords (contentsOf ws h) ≡ drop 10 ws
   unfolding tableWords contentsOf
   tables-again =
@@ -97,7 +102,7 @@ module _ (ws : List ℕ) (h : Header) (laid : Layout (4 * length ws) h) where
       (first, second, third, factors-back ws 10 c (omega arith), connections-back ws (10 + c) k (omega arith), arrivals-back ws (10 + (c + 4 * k)) a (omega arith), ← drop-drop c 10 ws, ← drop-drop (c + 4 * k) 10 ws)
       (three-parts (drop 10 ws) c (4 * k) (3 * a) all)
 
-  -- the header's words are those that the contents ask for
+  -- The header's words are those that the contents ask for.
   header-again : h ≡ headerOf ws → getD ws 0 0 ≡ 4 * length ws → headerWords (contentsOf ws h) ≡ nine ws
   unfolding headerWords contentsOf sizeOf headerOf
   header-again e size =
@@ -116,7 +121,7 @@ module _ (ws : List ℕ) (h : Header) (laid : Layout (4 * length ws) h) where
       sym (laid .arrivals-at) ∙ ap (λ x. x .arrivals .start) e in
       rw (f, k, a) (same-nine e₀ e₁ e₂ e₃ e₄ e₅ e₆ e₇ e₈)
 
-  -- so the words are the same
+  -- The words of the contents are the words that were read.
   words-same :
       h ≡ headerOf ws → getD ws 0 0 ≡ 4 * length ws → sumWords ws ≡ 0 → getD ws 9 0 < 2 ^ 32 → planWords (contentsOf ws h) ≡ ws
   unfolding planWords

@@ -14,7 +14,7 @@ use Rattle.plan.proofs.EntryLaws.{Local, table-same, connection-local, arrival-
 use Rattle.plan.proofs.WordLaws.{length-wordsOf, word-within, wordAt-same}
 use Rattle.plan_writer.proofs.Pasting.{length-bytes, length-word}
 
--- a number below 2^32 is the word that its four bytes make
+-- A number below 2^32 is the word that its four bytes make.
 word-again : (w : ℕ) → w < 2 ^ 32 → wordAt (bytesOfWord w) 0 ≡ w
 unfolding wordAt bytesOfWord
 word-again w h =
@@ -32,7 +32,7 @@ word-again w h =
         (w q r s a b c d : ℕ) → 256 * q + a ≡ w → 256 * r + b ≡ q → 256 * s + c ≡ r → d ≡ s → a + 256 * b + 65536 * c + 16777216 * d ≡ w
     glue w q r s a b c d e f g t = omega arith
 
--- a byte of a word, in the bytes of words
+-- A byte in the bytes of words is the byte of its word.
 byte-of-words :
     (ws : List ℕ) (i k : ℕ) → i < length ws → k < 4 → getD (bytesOfWords ws) (4 * i + k) 0 ≡ getD (bytesOfWord (getD ws i 0)) (0 + k) 0
 unfolding bytesOfWords flatten
@@ -44,7 +44,7 @@ byte-of-words (w ∷ ws) (suc i) k h l =
     getD-append-add (bytesOfWord w) (bytesOfWords ws) (4 * i + k) 0 ∙
     byte-of-words ws i k (omega arith) l
 
--- words below 2^32 are read back from their bytes
+-- Words below 2^32 are read back from their bytes.
 pub words-again : (ws : List ℕ) → ((i : ℕ) → getD ws i 0 < 2 ^ 32) → wordsOf (bytesOfWords ws) ≡ ws
 words-again ws small = ext-getD 0 (wordsOf (bytesOfWords ws)) ws long same
   where
@@ -59,7 +59,7 @@ words-again ws small = ext-getD 0 (wordsOf (bytesOfWords ws)) ws long same
         wordAt-same (bytesOfWords ws) (bytesOfWord (getD ws i 0)) (4 * i) 0 (λ k b. byte-of-words ws i k n b) ∙
         word-again (getD ws i 0) (small i)
 
--- four bytes are those of the word that they make
+-- Four bytes are those of the word that they make.
 word-bytes :
     (a b c d : ℕ) → a < 256 → b < 256 → c < 256 → d < 256 → bytesOfWord (a + 256 * b + 65536 * c + 16777216 * d) ≡ a ∷ b ∷ c ∷ d ∷ []
 unfolding bytesOfWord
@@ -74,7 +74,7 @@ word-bytes a b c d ha hb hc hd =
     let third-low : d % 256 ≡ d = omega arith in
     rw (zero-th, first, second, third, first-low, second-low, third-low)
 
--- a byte below 256 is read back from the word that it is part of
+-- A byte below 256 is read back from the word that it is part of.
 byte-again :
     (bytes : List ℕ) → ((i : ℕ) → getD bytes i 0 < 256) → (at k : ℕ) → k < 4 → getD (bytesOfWord (wordAt bytes at)) (0 + k) 0 ≡ getD bytes (at + k) 0
 unfolding wordAt
@@ -91,7 +91,7 @@ byte-again bytes small at k h =
     by (suc (suc (suc zero))) l = refl
     by (suc (suc (suc (suc n)))) l = absurd (omega arith)
 
--- whole words of bytes below 256 give those bytes back
+-- Whole words of bytes below 256 give those bytes back.
 pub bytes-again :
     (bytes : List ℕ) → length bytes % 4 ≡ 0 → ((i : ℕ) → getD bytes i 0 < 256) → bytesOfWords (wordsOf bytes) ≡ bytes
 bytes-again bytes whole small = ext-getD 0 (bytesOfWords (wordsOf bytes)) bytes long same
@@ -113,7 +113,7 @@ bytes-again bytes whole small = ext-getD 0 (bytesOfWords (wordsOf bytes)) bytes 
         byte-again bytes small (4 * i) k (omega arith) ∙
         ap (λ m. getD bytes m 0) (sym at)
 
--- entries are read back from their words, whatever stands behind those
+-- Entries are read back from their words, whatever stands behind those.
 module _ {A : Type 0} (entry : List ℕ → ℕ → A) (width : ℕ) (own : Local entry width) (words : A → List ℕ) (wide : (a : A) → length (words a) ≡ width)
     (back : (a : A) (rest : List ℕ) → entry (words a ++ rest) 0 ≡ a) where
   entries-again : (entries : List A) (rest : List ℕ) → table entry width (flatten (map words entries) ++ rest) 0 (length entries) ≡ entries
@@ -131,11 +131,13 @@ module _ {A : Type 0} (entry : List ℕ → ℕ → A) (width : ℕ) (own : Loca
           let at : 0 + width + k ≡ length (words a) + (0 + k) = omega (arith, wide a) in
           ap (λ n. getD (words a ++ more) n 0) at ∙ getD-append-add (words a) more (0 + k) 0
 
+-- Connections are read back from their words.
 pub connections-again :
     (cs : List Connection) (rest : List ℕ) → table connectionAt 4 (flatten (map connectionWords cs) ++ rest) 0 (length cs) ≡ cs
 unfolding connectionWords connectionAt
 connections-again = entries-again connectionAt 4 connection-local connectionWords (λ c. refl) (λ c rest. refl)
 
+-- Arrivals are read back from their words.
 pub arrivals-again : (l : List Arrival) (rest : List ℕ) → table arrivalAt 3 (flatten (map arrivalWords l) ++ rest) 0 (length l) ≡ l
 unfolding arrivalWords arrivalAt
 arrivals-again = entries-again arrivalAt 3 arrival-local arrivalWords (λ a. refl) (λ a rest. refl)

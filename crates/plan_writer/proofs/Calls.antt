@@ -13,7 +13,8 @@ use Rattle.laws.specs.Tests.{bool-cases}
 use Rattle.meaning.specs.declared.Header.{Header}
 use Rattle.meaning.specs.declared.PlanWritten.{PlanWritten}
 use Rattle.meaning.specs.declared.PlanRead.{PlanRead}
-use Rattle.meaning.specs.Plan.{Plan, Lent, lentPlan, lentWrong, wordsOf, headerOf, contentsOf, table, factorAt, connectionAt, arrivalAt, connectionWords, arrivalWords, planWords, planBytes, sizeOf, slotsWrong, readingAnswer, writingAnswer}
+use Rattle.meaning.specs.Plan.{Plan, Lent, lentPlan, lentWrong, wordsOf, headerOf, contentsOf, table, factorAt, connectionAt, arrivalAt}
+use Rattle.meaning.specs.Plan.{connectionWords, arrivalWords, planWords, planBytes, sizeOf, slotsWrong, readingAnswer, writingAnswer}
 use Rattle.plan_writer.specs.Bytes.{pasted}
 use Rattle.plan.specs.Entries.{length-table}
 use Rattle.plan_writer.proofs.Back.{connections-again, arrivals-again}
@@ -26,6 +27,7 @@ use Rattle.plan_writer.specs.Writable.{Writable, Fits, Taken, lentOf}
 use Rattle.plan_writer.proofs.RoundTrip.{written-and-read}
 use Rattle.plan_writer.proofs.Again.{read-and-written}
 
+-- Words joined to words are of 32 bits where both are.
 both-fit :
     (l m : List ℕ) → ((i : ℕ) → getD l i 0 < 2 ^ 32) → ((i : ℕ) → getD m i 0 < 2 ^ 32) → (i : ℕ) → getD (l ++ m) i 0 < 2 ^ 32
 both-fit [] m p q i = q i
@@ -39,6 +41,7 @@ refuses PlanWritten.WrongLayout = true
 refuses PlanWritten.WrongSlots = true
 refuses PlanWritten.TooShort = true
 
+-- Lent tables whose size was answered are right, and there was room for them.
 pub write-facts : (l : Lent) (buf : List ℕ) (size : ℕ) → writingAnswer l (length buf) ≡ PlanWritten.Written size → Taken l (length buf) size
 write-facts l buf size done =
     ⊎-elim (λ a. other PlanWritten.WrongLayout refl (answer-15 l buf a .0))
@@ -59,7 +62,7 @@ write-facts l buf size done =
         let e : size ≡ sizeOf (lentPlan l) = cc in
         record { right = a; slots-right = b; size-is = e; room-for = omega arith }
 
--- lent tables that are not refused are contents that fit a plan file
+-- Lent tables that are not refused are contents that fit a plan file.
 lent-writable : (l : Lent) → Fits l → lentWrong l ≡ false → slotsWrong (lentPlan l .arrivals) ≡ false → Writable (lentPlan l)
 unfolding lentPlan lentWrong lengthsWrong
 lent-writable l fits right slots =
@@ -86,6 +89,7 @@ write-then-read l buf size fits done =
     let long : length (planBytes (lentPlan l)) ≡ size = length-plan (lentPlan l) ∙ sym (t .size-is) in
     rw (done, take-at (planBytes (lentPlan l)) (drop size buf) size long) (written-and-read (lentPlan l) (lent-writable l fits (t .right) (t .slots-right)))
 
+-- Contents that are lent to the writer are the contents that it writes.
 pub lent-again : (plan : Plan) → lentPlan (lentOf plan) ≡ plan
 unfolding lentPlan lentOf
 lent-again plan =
@@ -99,7 +103,7 @@ lent-again plan =
     ap₂ (λ ws n. table arrivalAt 3 ws 0 n) (sym (append-nil a)) many ∙ arrivals-again (plan .arrivals) [] in
     rw (cs, l)
 
--- contents of few enough entries are lent right
+-- Contents of few enough entries are lent right.
 lent-right :
     (plan : Plan) → length (plan .settings .factors) ≤ 8 → length (plan .connections) ≤ 32 → length (plan .arrivals) ≤ 4096 → lentWrong (lentOf plan) ≡ false
 unfolding lentWrong lentOf lengthsWrong

@@ -9,7 +9,8 @@ use lib.Seq.{take-all}
 use lib.Dec.{eqb}
 use borrow.Author.Tests.{leb-true, eqb-true, not-false, le-leb, eq-eqb}
 use Rattle.laws.specs.Sums.{sumOf}
-use Rattle.meaning.specs.Plan.{lentPlan, countsAllowed, sizeOf, headerWords, tableWords, sumWord, sumWords, planWords, planBytes, connectionAt, arrivalAt}
+use Rattle.meaning.specs.Plan.{lentPlan, countsAllowed, sizeOf, headerWords, tableWords, sumWord, sumWords, planWords, planBytes}
+use Rattle.meaning.specs.Plan.{connectionAt, arrivalAt}
 use Rattle.plan.proofs.LaidOut.{both}
 use Rattle.plan.specs.Entries.{length-table}
 use Rattle.plan_writer.proofs.TableWords.{connections-back, arrivals-back}
@@ -18,6 +19,7 @@ use Rattle.plan_writer.proofs.Pasting.{paste-four-words}
 use Rattle.plan_writer.specs.Written.{lent, lengthsWrong, Lengths, lentSize, headerStart}
 use Rattle.plan_writer.proofs.SumWord.{solved}
 
+-- Lengths that pass the test are right, count by count.
 pub lengths-facts : (f c a : ℕ) → lengthsWrong f c a ≡ false → Lengths f c a
 unfolding lengthsWrong countsAllowed
 lengths-facts f c a e =
@@ -33,25 +35,28 @@ lengths-facts f c a e =
       arrivals-whole = eqb-true _ _ (p .1);
     }
 
+-- Lengths that are right pass the test.
 pub lengths-right : (f c a : ℕ) → Lengths f c a → lengthsWrong f c a ≡ false
 unfolding lengthsWrong countsAllowed
 lengths-right f c a l =
     rw
     (le-leb _ _ (l .factors-few), le-leb _ _ (l .connections-few), le-leb _ _ (l .arrivals-few), eq-eqb _ _ (l .connections-whole), eq-eqb _ _ (l .arrivals-whole))
 
--- where all else is right, the last test decides
+-- Where all else is right, the last test decides.
 pub lengths-last :
     (f c a : ℕ) → f ≤ 8 → c / 4 ≤ 32 → a / 3 ≤ 4096 → c % 4 ≡ 0 → not (eqb (a % 3) 0) ≡ lengthsWrong f c a
 unfolding lengthsWrong countsAllowed
 lengths-last f c a p q r s = rw (le-leb _ _ p, le-leb _ _ q, le-leb _ _ r, eq-eqb _ _ s)
 
 module _ (interval cycle : ℕ) (factors connections arrivals : List ℕ) (whole : Lengths (length factors) (length connections) (length arrivals)) where
+  -- The plan of lent tables has the size that their lengths tell.
   pub size-of-lent :
       sizeOf (lentPlan (lent interval cycle factors connections arrivals)) ≡ lentSize (length factors) (length connections) (length arrivals)
   unfolding sizeOf lentPlan
   size-of-lent =
       rw (length-table connectionAt 4 connections 0 (length connections / 4), length-table arrivalAt 3 arrivals 0 (length arrivals / 3)) (omega arith)
 
+  -- The words of its tables are the words that were lent.
   pub tables-of-lent : tableWords (lentPlan (lent interval cycle factors connections arrivals)) ≡ factors ++ connections ++ arrivals
   unfolding tableWords lentPlan
   tables-of-lent =
@@ -60,6 +65,7 @@ module _ (interval cycle : ℕ) (factors connections arrivals : List ℕ) (whole
       rw
       (connections-back connections 0 (length connections / 4) (omega arith), arrivals-back arrivals 0 (length arrivals / 3) (omega arith), c, a)
 
+  -- The words of its header are those that the lengths of the tables tell.
   header-of-lent :
       headerWords (lentPlan (lent interval cycle factors connections arrivals)) ≡
       headerStart interval cycle (length factors) (length connections) (length arrivals)
@@ -72,7 +78,7 @@ module _ (interval cycle : ℕ) (factors connections arrivals : List ℕ) (whole
       omega arith in
       rw (length-table connectionAt 4 connections 0 (length connections / 4), length-table arrivalAt 3 arrivals 0 (length arrivals / 3), c, a)
 
-  -- the words that were put, in their order, are the words of the plan, once the last word of the header brings the sum to 0
+  -- The words that were put, in their order, are the words of the plan, once the last word of the header brings the sum to 0.
   pub words-put :
       (s₁ s₂ s₃ s₄ last : ℕ) →
       s₁ ≡ (0 + sumOf (λ w. w) (headerStart interval cycle (length factors) (length connections) (length arrivals) ++ 0 ∷ [])) % 2 ^ 32 →
@@ -94,7 +100,7 @@ module _ (interval cycle : ℕ) (factors connections arrivals : List ℕ) (whole
       solved start factors connections arrivals s₁ s₂ s₃ s₄ last e₁ e₂ e₃ e₄ l e in
       rw (header-of-lent, tables-of-lent, sum)
 
-  -- the four writes, one behind another, put the bytes of those words
+  -- The four writes, one behind another, put the bytes of those words.
   pub bytes-put :
       (buf b₁ b₂ b₃ b₄ : List ℕ) (last : ℕ) →
       lentSize (length factors) (length connections) (length arrivals) ≤ length buf →

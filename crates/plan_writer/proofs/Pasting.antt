@@ -10,33 +10,39 @@ use lib.Seq.{take-suc, drop-append-add, take-at, drop-drop, length-take-le, sets
 use Rattle.meaning.specs.Plan.{bytesOfWord}
 use Rattle.plan_writer.specs.Bytes.{bytesOfWords, pasted}
 
+-- The bytes of words joined to words are joined the same way.
 pub bytes-append : (ws vs : List ℕ) → bytesOfWords (ws ++ vs) ≡ bytesOfWords ws ++ bytesOfWords vs
 unfolding bytesOfWords flatten
 bytes-append [] vs = refl
 bytes-append (w ∷ ws) vs = ap (λ l. bytesOfWord w ++ l) (bytes-append ws vs) ∙ sym (append-assoc (bytesOfWord w) (bytesOfWords ws) (bytesOfWords vs))
 
+-- A word has four bytes in the bytes of words.
 pub length-bytes : (ws : List ℕ) → length (bytesOfWords ws) ≡ 4 * length ws
 unfolding bytesOfWords flatten bytesOfWord
 length-bytes [] = refl
 length-bytes (w ∷ ws) = omega (arith, length-bytes ws)
 
+-- A word has four bytes.
 pub length-word : (w : ℕ) → length (bytesOfWord w) ≡ 4
 unfolding bytesOfWord
 length-word w = refl
 
+-- The bytes of one word are its four.
 bytes-one : (w : ℕ) → bytesOfWords (w ∷ []) ≡ bytesOfWord w
 unfolding bytesOfWords flatten
 bytes-one w = append-nil (bytesOfWord w)
 
+-- A buffer with nothing put into it is as it was.
 pub paste-none : (buf : List ℕ) (at : ℕ) → pasted buf at [] ≡ buf
 unfolding pasted
 paste-none buf at = rw add-zero (take-append-drop at buf)
 
+-- A buffer with bytes put into it is as long as it was.
 pub length-pasted : (buf : List ℕ) (at : ℕ) (xs : List ℕ) → at + length xs ≤ length buf → length (pasted buf at xs) ≡ length buf
 unfolding pasted
 length-pasted buf at xs h = simp (length-append, length-take, length-drop) (omega arith)
 
--- what is put behind what was put is put in one
+-- What is put behind what was put is put in one.
 pub paste-more :
     (buf : List ℕ) (at : ℕ) (xs ys : List ℕ) (next : ℕ) → next ≡ at + length xs → at + length xs + length ys ≤ length buf → pasted (pasted buf at xs) next ys ≡
     pasted buf at (xs ++ ys)
@@ -70,7 +76,7 @@ paste-more buf at xs ys next e h =
         drop-drop (length ys) (at + length xs) buf ∙
         ap (λ k. drop k buf) all
 
--- one word more
+-- One word more, put behind the words before it, is put in one with them.
 pub paste-word :
     (buf : List ℕ) (at : ℕ) (ws : List ℕ) (i : ℕ) → i < length ws → at + 4 * length ws ≤ length buf → pasted (pasted buf at (bytesOfWords (take i ws))) (at + 4 * i) (bytesOfWord (getD ws i 0)) ≡
     pasted buf at (bytesOfWords (take (i + 1) ws))
@@ -85,7 +91,7 @@ paste-word buf at ws i h r =
         bytes-append (take i ws) (getD ws i 0 ∷ []) ∙
         ap (λ l. bytesOfWords (take i ws) ++ l) (bytes-one (getD ws i 0))
 
--- four stores, one after another
+-- Four stores, one after another, put four bytes.
 pub paste-four :
     (buf : List ℕ) (at a b c d : ℕ) → at + 4 ≤ length buf → set (set (set (set buf at a) (at + 1) b) (at + 2) c) (at + 3) d ≡
     pasted buf at (a ∷ b ∷ c ∷ d ∷ [])
@@ -93,7 +99,7 @@ unfolding pasted
 paste-four buf at a b c d h =
     simp towards-suc (sets-eq (a ∷ b ∷ c ∷ d ∷ []) buf at h ∙ append-assoc (take at buf) (a ∷ b ∷ c ∷ d ∷ []) (drop (at + 4) buf) ∙ simp towards-suc)
 
--- words put behind words are put in one
+-- Words put behind words are put in one.
 pub paste-words :
     (buf ws vs : List ℕ) (next : ℕ) → next ≡ 4 * length ws → next + 4 * length vs ≤ length buf → pasted (pasted buf 0 (bytesOfWords ws)) next (bytesOfWords vs) ≡
     pasted buf 0 (bytesOfWords (ws ++ vs))
@@ -102,7 +108,7 @@ paste-words buf ws vs next e h =
     let lv = length-bytes vs in
     paste-more buf 0 (bytesOfWords ws) (bytesOfWords vs) next (omega arith) (omega arith) ∙ ap (pasted buf 0) (sym (bytes-append ws vs))
 
--- four writes, one behind another
+-- Four lists of words, put one behind another, are put in one.
 pub paste-four-words :
     (buf h f c a : List ℕ) (n₁ n₂ n₃ : ℕ) → n₁ ≡ 4 * length h → n₂ ≡ n₁ + 4 * length f → n₃ ≡ n₂ + 4 * length c → n₃ + 4 * length a ≤ length buf →
     pasted (pasted (pasted (pasted buf 0 (bytesOfWords h)) n₁ (bytesOfWords f)) n₂ (bytesOfWords c)) n₃ (bytesOfWords a) ≡

@@ -10,7 +10,8 @@ use lib.Seq.{getD-append-add, getD-drop, take-at}
 use borrow.Author.Tests.{le-ltb, eq-eqb}
 use Rattle.laws.specs.Sums.{sumOf}
 use Rattle.meaning.specs.declared.PlanRead.{PlanRead}
-use Rattle.meaning.specs.Plan.{Plan, wordsOf, headerOf, contentsOf, table, factorAt, connectionAt, arrivalAt, connectionWords, arrivalWords, tableWords, headerWords, sumWord, sumWords, planWords, planBytes, sizeOf, sizeWrong, readingAnswer}
+use Rattle.meaning.specs.Plan.{Plan, wordsOf, headerOf, contentsOf, table, factorAt, connectionAt, arrivalAt, connectionWords, arrivalWords}
+use Rattle.meaning.specs.Plan.{tableWords, headerWords, sumWord, sumWords, planWords, planBytes, sizeOf, sizeWrong, readingAnswer}
 use Rattle.meaning.specs.Numbers
 use Rattle.plan_writer.specs.Bytes.{bytesOfWords}
 use Rattle.plan.proofs.EntryLaws.{table-same, connection-local, arrival-local}
@@ -24,7 +25,7 @@ use Rattle.plan.proofs.Good.{read-back}
 use Rattle.plan_writer.specs.Writable.{Writable}
 
 module _ (plan : Plan) (w : Writable plan) where
-  -- every word of the plan fits
+  -- Every word of the plan fits.
   words-fit : (i : ℕ) → getD (planWords plan) i 0 < 2 ^ 32
   unfolding planWords headerWords sizeOf sumWord
   words-fit zero = omega arith
@@ -39,12 +40,12 @@ module _ (plan : Plan) (w : Writable plan) where
   words-fit (suc (suc (suc (suc (suc (suc (suc (suc (suc zero))))))))) = mod-lt _ (omega arith)
   words-fit (suc (suc (suc (suc (suc (suc (suc (suc (suc (suc i)))))))))) = w .tables-fit i
 
-  -- the words are read back
+  -- The words of the plan are read back from its bytes.
   pub words-back : wordsOf (planBytes plan) ≡ planWords plan
   unfolding planBytes bytesOfWords
   words-back = words-again (planWords plan) words-fit
 
--- the word behind the header's words brings the sum to 0
+-- The word behind the header's words brings the sum to 0.
 pub sum-back : (plan : Plan) → sumWords (planWords plan) ≡ 0
 unfolding planWords sumWords sumWord sumOf
 sum-back plan =
@@ -53,13 +54,14 @@ sum-back plan =
     let s = (2 ^ 32 - sumOf (λ x. x) (h ++ t) % 2 ^ 32) % 2 ^ 32 in
     omega (arith, sum-append (λ w. w) h (s ∷ t), sum-append (λ w. w) h t)
 
--- a word of the tables, behind the ten words of the header
+-- A word of the tables stands behind the ten words of the header.
 word-of-tables : (plan : Plan) (i : ℕ) → getD (planWords plan) (10 + i) 0 ≡ getD (tableWords plan) i 0
 unfolding planWords headerWords
 word-of-tables plan i = sym (getD-drop 10 (planWords plan) i 0)
 
--- the tables are read back, each behind the one before it
+-- Each table is read back, behind the one before it:
 module _ (plan : Plan) where
+  -- The factors are read back from the words of the plan.
   factors-read : table factorAt 1 (planWords plan) 10 (length (plan .settings .factors)) ≡ plan .settings .factors
   unfolding planWords headerWords tableWords
   factors-read =
@@ -72,6 +74,7 @@ module _ (plan : Plan) where
       ap (take (length f)) (append-assoc f c a) ∙
       take-at f (c ++ a) (length f) refl
 
+  -- The connections are read back, behind the factors.
   connections-read :
       table connectionAt 4 (planWords plan) (10 + length (plan .settings .factors)) (length (plan .connections)) ≡ plan .connections
   unfolding tableWords
@@ -95,6 +98,7 @@ module _ (plan : Plan) where
           ap (λ l. getD l (length f + (0 + k)) 0) (append-assoc f c a) ∙
           getD-append-add f (c ++ a) (0 + k) 0
 
+  -- The arrivals are read back, behind the connections.
   arrivals-read :
       table arrivalAt 3 (planWords plan) (10 + length (plan .settings .factors) + 4 * length (plan .connections)) (length (plan .arrivals)) ≡
       plan .arrivals
@@ -120,7 +124,7 @@ module _ (plan : Plan) where
           getD-append-add (f ++ c) a (0 + k) 0 ∙
           ap (λ l. getD l (0 + k) 0) (sym (append-nil a))
 
-  -- so the contents are
+  -- The contents are read back from the words of the plan.
   pub contents-back : contentsOf (planWords plan) (headerOf (planWords plan)) ≡ plan
   unfolding contentsOf headerOf planWords headerWords
   contents-back =
@@ -130,7 +134,7 @@ module _ (plan : Plan) where
       let third : (40 + 4 * f + 16 * k) / 4 ≡ 10 + f + 4 * k = omega arith in
       rw (second, third, factors-read, connections-read, arrivals-read)
 
-  -- the header says where they are
+  -- The header of the plan is laid out right.
   header-laid : Writable plan → Layout (length (planBytes plan)) (headerOf (planWords plan))
   unfolding headerOf planWords headerWords sizeOf
   header-laid w =
@@ -144,6 +148,7 @@ module _ (plan : Plan) where
         ends = length-plan plan;
       }
 
+  -- The bytes of the plan pass the test of the size.
   size-right : Writable plan → sizeWrong (planBytes plan) ≡ false
   unfolding sizeWrong sizeOf planWords headerWords
   size-right w =
@@ -154,7 +159,7 @@ module _ (plan : Plan) where
       let first : getD (wordsOf (planBytes plan)) 0 0 ≡ length (planBytes plan) = ap (λ ws. getD ws 0 0) (words-back plan w) ∙ sym n in
       rw (le-ltb _ _ low, le-ltb _ _ high, eq-eqb _ _ whole, eq-eqb _ _ first)
 
--- "written and read back: same contents"
+-- The bytes of contents that fit a plan file read well.
 pub written-reads : (plan : Plan) → Writable plan → Readable (planBytes plan) (headerOf (planWords plan))
 written-reads plan w =
     let words = words-back plan w in
@@ -166,6 +171,7 @@ written-reads plan w =
       slots = rw (words, contents-back plan) (w .slots-right);
     }
 
+-- "written and read back: same contents"
 pub written-and-read :
     (plan : Plan) → Writable plan → (readingAnswer (planBytes plan) ≡ PlanRead.Good (headerOf (planWords plan))) × (contentsOf (wordsOf (planBytes plan)) (headerOf (planWords plan)) ≡ plan)
 written-and-read plan w =

@@ -7,6 +7,7 @@ use Rattle.meaning.specs.declared.PlanWritten.{PlanWritten}
 use Rattle.meaning.specs.Plan.{Lent, writingAnswer}
 use Rattle.plan_writer.specs.Written.{bytesAfter}
 
+-- Two answers of `write`, and the buffers that they leave, are the same.
 pub write-settled :
     (l : Lent) (buf : List ℕ) (r s : PlanWritten) (after left : List ℕ) → r ≡ writingAnswer l (length buf) → s ≡ writingAnswer l (length buf) →
     after ≡ bytesAfter l buf → left ≡ bytesAfter l buf → (r ≡ s) × (after ≡ left)

@@ -7,11 +7,11 @@ use native.Mathlib.Nat.{zero-add, mod-add-mod, add-mod-mod}
 use Rattle.laws.specs.Sums.{sumOf, sum-append}
 use Rattle.meaning.specs.Plan.{sumWord, sumWords}
 
--- the one number of 32 bits that brings a sum to 0
+-- The number that is solved for is the one number of 32 bits that brings the sum to 0.
 pub sum-solved : (s x : ℕ) → x < 2 ^ 32 → (x + s) % 2 ^ 32 ≡ 0 → (2 ^ 32 - s % 2 ^ 32) % 2 ^ 32 ≡ x
 sum-solved s x l f = omega arith
 
--- the word that is solved for, from the sums of the header and of the tables, one after another
+-- The sums of the header and of the tables, taken one after another, give the word that is solved for.
 pub solved :
     (start f c a : List ℕ) (s₁ s₂ s₃ s₄ last : ℕ) → s₁ ≡ (0 + sumOf (λ w. w) (start ++ 0 ∷ [])) % 2 ^ 32 → s₂ ≡ (s₁ + sumOf (λ w. w) f) % 2 ^ 32 →
     s₃ ≡ (s₂ + sumOf (λ w. w) c) % 2 ^ 32 → s₄ ≡ (s₃ + sumOf (λ w. w) a) % 2 ^ 32 → last < 2 ^ 32 → (last + s₄) % 2 ^ 32 ≡ 0 →

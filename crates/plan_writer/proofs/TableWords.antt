@@ -11,7 +11,7 @@ use Rattle.meaning.specs.Plan.{table, factorAt, connectionAt, arrivalAt, connec
 use Rattle.meaning.specs.Numbers
 
 module _ {A : Type 0} (entry : List ℕ → ℕ → A) (width : ℕ) where
-  -- the words of a table's entries, one after another, are the words that the table was read from
+  -- The words of a table's entries, one after another, are the words that the table was read from.
   pub words-of-table :
       (words : A → List ℕ) →
       ((ws : List ℕ) (i : ℕ) → i + width ≤ length ws → words (entry ws i) ≡ take width (drop i ws)) →
@@ -26,27 +26,30 @@ module _ {A : Type 0} (entry : List ℕ → ℕ → A) (width : ℕ) where
 step : (ws : List ℕ) (i : ℕ) → i < length ws → drop i ws ≡ getD ws i 0 ∷ drop (suc i) ws
 step ws i h = drop-cons ws i 0 h
 
--- A connection's words are the four from its place on, and an arrival's the three.
+-- A connection's words are the four from its place on.
 pub connection-words : (ws : List ℕ) (i : ℕ) → i + 4 ≤ length ws → connectionWords (connectionAt ws i) ≡ take 4 (drop i ws)
 unfolding connectionWords connectionAt
 connection-words ws i h =
     simp towards-suc
     (rw (step ws i (omega arith), step ws (suc i) (omega arith), step ws (suc (suc i)) (omega arith), step ws (suc (suc (suc i))) (omega arith)))
 
+-- An arrival's words are the three from its place on.
 pub arrival-words : (ws : List ℕ) (i : ℕ) → i + 3 ≤ length ws → arrivalWords (arrivalAt ws i) ≡ take 3 (drop i ws)
 unfolding arrivalWords arrivalAt
 arrival-words ws i h =
     simp towards-suc (rw (step ws i (omega arith), step ws (suc i) (omega arith), step ws (suc (suc i)) (omega arith)))
 
--- Tables that fill their words are those words.
+-- The words of a table of connections are the words that it was read from.
 pub connections-back :
     (ws : List ℕ) (i n : ℕ) → i + 4 * n ≤ length ws → flatten (map connectionWords (table connectionAt 4 ws i n)) ≡ take (4 * n) (drop i ws)
 connections-back = words-of-table connectionAt 4 connectionWords connection-words
 
+-- The words of a table of arrivals are the words that it was read from.
 pub arrivals-back :
     (ws : List ℕ) (i n : ℕ) → i + 3 * n ≤ length ws → flatten (map arrivalWords (table arrivalAt 3 ws i n)) ≡ take (3 * n) (drop i ws)
 arrivals-back = words-of-table arrivalAt 3 arrivalWords arrival-words
 
+-- A table of factors is the words that it was read from.
 pub factors-back : (ws : List ℕ) (i n : ℕ) → i + n ≤ length ws → table factorAt 1 ws i n ≡ take n (drop i ws)
 unfolding table factorAt
 factors-back ws i zero h = refl
