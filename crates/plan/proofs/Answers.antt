@@ -51,7 +51,8 @@ module _ (bytes : List ℕ) where
 
 -- The test of the slots on the end of the plan is that on the arrivals of the contents.
 pub slots-of-rest :
-    (bytes : List ℕ) (h : Header) → layoutWrong (length bytes) h ≡ false → slotsWrong (arrivalsIn (take (length bytes - h .arrivals .start) (drop (h .arrivals .start) bytes))) ≡
+    (bytes : List ℕ) (h : Header) → layoutWrong (length bytes) h ≡ false →
+    slotsWrong (arrivalsIn (take (length bytes - h .arrivals .start) (drop (h .arrivals .start) bytes))) ≡
     slotsWrongIn bytes h
 unfolding slotsWrongIn contentsOf
 slots-of-rest bytes h e = ap slotsWrong (arrivals-of-rest bytes h (layout-facts (length bytes) h e))

@@ -80,7 +80,9 @@ rising l e = and-eq-true-iff (neverFallingFrom 0 l) _ .0 (not-false _ e) .0
 -- "Then the tables without gaps": each table is the part of the plan from its offset on, and its entries are the contents.
 module _ (bytes : List ℕ) (h : Header) (r : Readable bytes h) where
   -- A part that lies in the plan is the bytes from its offset on.
-  part-is : (t : Table) (width : ℕ) → t .start + width * t .count ≤ length bytes → partOf bytes t width ≡ take (width * t .count) (drop (t .start) bytes)
+  part-is :
+      (t : Table) (width : ℕ) → t .start + width * t .count ≤ length bytes →
+      partOf bytes t width ≡ take (width * t .count) (drop (t .start) bytes)
   unfolding partOf
   part-is t width l = rw (le-leb _ _ l)
 
@@ -105,7 +107,8 @@ module _ (bytes : List ℕ) (h : Header) (r : Readable bytes h) where
 
   -- The part of the connection table holds the connections of the contents.
   pub connections-hold :
-      table connectionAt 4 (wordsOf (partOf bytes (h .connections) 16)) 0 (h .connections .count) ≡ contentsOf (wordsOf bytes) h .connections
+      table connectionAt 4 (wordsOf (partOf bytes (h .connections) 16)) 0 (h .connections .count) ≡
+      contentsOf (wordsOf bytes) h .connections
   unfolding contentsOf
   connections-hold =
       let l = r .laid in
@@ -123,7 +126,8 @@ module _ (bytes : List ℕ) (h : Header) (r : Readable bytes h) where
       part-holds arrivalAt 3 arrival-local (h .arrivals) (10 + h .classes .count + 4 * h .connections .count) (omega arith) fits
     where
       counted :
-          h .arrivals .start + 12 * h .arrivals .count ≤ length bytes → length (take (12 * h .arrivals .count) (drop (h .arrivals .start) bytes)) / 12 ≡ h .arrivals .count
+          h .arrivals .start + 12 * h .arrivals .count ≤ length bytes →
+          length (take (12 * h .arrivals .count) (drop (h .arrivals .start) bytes)) / 12 ≡ h .arrivals .count
       counted l = simp (length-take, length-drop) (omega arith)
 
   -- The slots of the arrival table never fall, and none exceeds the largest.
@@ -132,7 +136,8 @@ module _ (bytes : List ℕ) (h : Header) (r : Readable bytes h) where
 
   -- An entry by its number, counted from 0, is that entry of the contents.
   entry-holds :
-      {A : Type 0} (entry : List ℕ → ℕ → A) (width : ℕ) (part : List ℕ) (n i : ℕ) (l : List A) (d : A) → i < n → table entry width (wordsOf part) 0 n ≡ l → entry (wordsOf part) (width * i) ≡ getD l i d
+      {A : Type 0} (entry : List ℕ → ℕ → A) (width : ℕ) (part : List ℕ) (n i : ℕ) (l : List A) (d : A) →
+      i < n → table entry width (wordsOf part) 0 n ≡ l → entry (wordsOf part) (width * i) ≡ getD l i d
   entry-holds entry width part n i l d below e =
       let at : width * i ≡ 0 + width * i = omega arith in
       ap (entry (wordsOf part)) at ∙
@@ -141,14 +146,18 @@ module _ (bytes : List ℕ) (h : Header) (r : Readable bytes h) where
 
   -- A factor by its number, in the part of the class table, is that factor of the contents.
   pub factor-holds :
-      (i : ℕ) → i < h .classes .count → factorAt (wordsOf (partOf bytes (h .classes) 4)) i ≡ getD (contentsOf (wordsOf bytes) h .settings .factors) i 0
+      (i : ℕ) → i < h .classes .count →
+      factorAt (wordsOf (partOf bytes (h .classes) 4)) i ≡ getD (contentsOf (wordsOf bytes) h .settings .factors) i 0
   factor-holds i below =
       let at : i ≡ 1 * i = omega arith in
-      ap (factorAt (wordsOf (partOf bytes (h .classes) 4))) at ∙
-      entry-holds factorAt 1 (partOf bytes (h .classes) 4) (h .classes .count) i (contentsOf (wordsOf bytes) h .settings .factors) 0 below classes-hold
+      let part = partOf bytes (h .classes) 4 in
+      ap (factorAt (wordsOf part)) at ∙
+      entry-holds factorAt 1 part (h .classes .count) i (contentsOf (wordsOf bytes) h .settings .factors) 0 below classes-hold
 
   -- A connection by its number, in the part of the connection table, is that connection of the contents.
   pub connection-holds :
-      (i : ℕ) (d : Connection) → i < h .connections .count → connectionAt (wordsOf (partOf bytes (h .connections) 16)) (4 * i) ≡ getD (contentsOf (wordsOf bytes) h .connections) i d
+      (i : ℕ) (d : Connection) → i < h .connections .count →
+      connectionAt (wordsOf (partOf bytes (h .connections) 16)) (4 * i) ≡ getD (contentsOf (wordsOf bytes) h .connections) i d
   connection-holds i d below =
-      entry-holds connectionAt 4 (partOf bytes (h .connections) 16) (h .connections .count) i (contentsOf (wordsOf bytes) h .connections) d below connections-hold
+      let part = partOf bytes (h .connections) 16 in
+      entry-holds connectionAt 4 part (h .connections .count) i (contentsOf (wordsOf bytes) h .connections) d below connections-hold

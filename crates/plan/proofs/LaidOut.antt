@@ -41,21 +41,29 @@ layout-facts size h e =
 pub layout-right : (size : ℕ) (h : Header) → Layout size h → layoutWrong size h ≡ false
 unfolding layoutWrong countsAllowed
 layout-right size h l =
-    rw
-    (le-leb _ _ (l .classes-few), le-leb _ _ (l .connections-few), le-leb _ _ (l .arrivals-few), eq-eqb _ _ (l .classes-at), eq-eqb _ _ (l .connections-at), eq-eqb _ _ (l .arrivals-at), eq-eqb _ _ (l .ends))
+    rw (
+      le-leb _ _ (l .classes-few),
+      le-leb _ _ (l .connections-few),
+      le-leb _ _ (l .arrivals-few),
+      eq-eqb _ _ (l .classes-at),
+      eq-eqb _ _ (l .connections-at),
+      eq-eqb _ _ (l .arrivals-at),
+      eq-eqb _ _ (l .ends),
+    )
 
 -- A table in a part of the bytes is the table in the whole, from the word on at which the part starts.
 pub part-table :
     {A : Type 0} (entry : List ℕ → ℕ → A) (width : ℕ) → Local entry width →
-    (bytes : List ℕ) (a n : ℕ) → 4 * a + 4 * (width * n) ≤ length bytes → table entry width (wordsOf (take (4 * (width * n)) (drop (4 * a) bytes))) 0 n ≡
-    table entry width (wordsOf bytes) a n
+    (bytes : List ℕ) (a n : ℕ) → 4 * a + 4 * (width * n) ≤ length bytes →
+    table entry width (wordsOf (take (4 * (width * n)) (drop (4 * a) bytes))) 0 n ≡ table entry width (wordsOf bytes) a n
 part-table entry width own bytes a n h =
     table-same entry width own (wordsOf (take (4 * (width * n)) (drop (4 * a) bytes))) (wordsOf bytes) 0 a n (λ k l.
     ap (λ i. getD (wordsOf (take (4 * (width * n)) (drop (4 * a) bytes))) i 0) (omega arith) ∙ word-of-part bytes a (width * n) k h l)
 
 -- The arrivals in the end of a plan are those of its arrival table.
 pub arrivals-of-rest :
-    (bytes : List ℕ) (h : Header) → Layout (length bytes) h → arrivalsIn (take (length bytes - h .arrivals .start) (drop (h .arrivals .start) bytes)) ≡
+    (bytes : List ℕ) (h : Header) → Layout (length bytes) h →
+    arrivalsIn (take (length bytes - h .arrivals .start) (drop (h .arrivals .start) bytes)) ≡
     table arrivalAt 3 (wordsOf bytes) (h .arrivals .start / 4) (h .arrivals .count)
 unfolding arrivalsIn
 arrivals-of-rest bytes h l =

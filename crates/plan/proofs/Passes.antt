@@ -23,7 +23,8 @@ sumFrom ws i = sumOf (λ w. w) (drop i ws)
 
 -- A word added to the sum leaves the sum of the rest from the next word on.
 pub sum-step :
-    (ws : List ℕ) (i sum t : ℕ) → i < length ws → (sum + sumFrom ws i) % 2 ^ 32 ≡ t → ((sum + getD ws i 0) % 2 ^ 32 + sumFrom ws (i + 1)) % 2 ^ 32 ≡ t
+    (ws : List ℕ) (i sum t : ℕ) → i < length ws → (sum + sumFrom ws i) % 2 ^ 32 ≡ t →
+    ((sum + getD ws i 0) % 2 ^ 32 + sumFrom ws (i + 1)) % 2 ^ 32 ≡ t
 unfolding sumFrom sumOf
 sum-step ws i sum t h e =
     rw (mod-add-mod, add-one, add-assoc) (rw (drop-cons ws i 0 h) at e)

@@ -50,10 +50,14 @@ only-0 false false true d e = absurd (omega arith)
 only-0 false false false true e = absurd (omega arith)
 only-0 false false false false e = (refl, refl, refl, refl)
 
+-- The answer of reading, by its four tests in their order.
+abbrev readingBy : Bool → Bool → Bool → Bool → Header → PlanRead
+readingBy a b c d h =
+    cond a PlanRead.WrongSize (cond b PlanRead.WrongSum (cond c PlanRead.WrongLayout (cond d PlanRead.WrongSlots (PlanRead.Good h))))
+
 -- The number of an answer of reading is that of the first test that refuses.
 read-number :
-    (a b c d : Bool) (h : Header) → planRead (cond a PlanRead.WrongSize (cond b PlanRead.WrongSum (cond c PlanRead.WrongLayout (cond d PlanRead.WrongSlots (PlanRead.Good h))))) .number ≡
-    readingOf a b c d
+    (a b c d : Bool) (h : Header) → planRead (readingBy a b c d h) .number ≡ readingOf a b c d
 unfolding planRead refusal
 read-number true b c d h = refl
 read-number false true c d h = refl
@@ -81,9 +85,13 @@ module _ (bytes : List ℕ) where
   reading-15-only e = only-15 (sizeWrong bytes) (sumWrong (wordsOf bytes)) (layoutOff bytes) (slotsOff bytes) (sym reading-number ∙ e)
 
   -- 16 is answered only where size, sum and layout are right and the slots are wrong.
-  pub reading-16-only : readingNumber bytes ≡ 16 → (sizeWrong bytes ≡ false) × (sumWrong (wordsOf bytes) ≡ false) × (layoutOff bytes ≡ false) × (slotsOff bytes ≡ true)
+  pub reading-16-only :
+      readingNumber bytes ≡ 16 →
+      (sizeWrong bytes ≡ false) × (sumWrong (wordsOf bytes) ≡ false) × (layoutOff bytes ≡ false) × (slotsOff bytes ≡ true)
   reading-16-only e = only-16 (sizeWrong bytes) (sumWrong (wordsOf bytes)) (layoutOff bytes) (slotsOff bytes) (sym reading-number ∙ e)
 
   -- 0 is answered only where every test passes.
-  pub reading-0-only : readingNumber bytes ≡ 0 → (sizeWrong bytes ≡ false) × (sumWrong (wordsOf bytes) ≡ false) × (layoutOff bytes ≡ false) × (slotsOff bytes ≡ false)
+  pub reading-0-only :
+      readingNumber bytes ≡ 0 →
+      (sizeWrong bytes ≡ false) × (sumWrong (wordsOf bytes) ≡ false) × (layoutOff bytes ≡ false) × (slotsOff bytes ≡ false)
   reading-0-only e = only-0 (sizeWrong bytes) (sumWrong (wordsOf bytes)) (layoutOff bytes) (slotsOff bytes) (sym reading-number ∙ e)

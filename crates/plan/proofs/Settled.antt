@@ -41,5 +41,6 @@ pub first-from-settled :
 first-from-settled bytes from limit r s = one
 
 -- Two answers of `stretch` are the same.
-pub stretch-settled : (bytes : List ℕ) (from slot : ℕ) (r s : List ℕ) → r ≡ stretchOf bytes from slot → s ≡ stretchOf bytes from slot → r ≡ s
+pub stretch-settled :
+    (bytes : List ℕ) (from slot : ℕ) (r s : List ℕ) → r ≡ stretchOf bytes from slot → s ≡ stretchOf bytes from slot → r ≡ s
 stretch-settled bytes from slot r s = one

@@ -15,14 +15,18 @@ use Rattle.meaning.specs.Plan.{neverFallingFrom, arrivalsOf}
 use Rattle.plan.specs.Parts.{leading}
 
 -- A list that never falls has its first slot in order, and its rest never falls from there.
-falls-not : (low : ℕ) (a : Arrival) (l : List Arrival) → neverFallingFrom low (a ∷ l) ≡ true → (low ≤ a .slot) × (neverFallingFrom (a .slot) l ≡ true)
+falls-not :
+    (low : ℕ) (a : Arrival) (l : List Arrival) → neverFallingFrom low (a ∷ l) ≡ true →
+    (low ≤ a .slot) × (neverFallingFrom (a .slot) l ≡ true)
 unfolding neverFallingFrom
 falls-not low a l e =
     let h = and-eq-true-iff (leb low (a .slot)) (neverFallingFrom (a .slot) l) .0 e in
     (leb-true _ _ (h .0), h .1)
 
 -- A list that never falls from its first slot never falls from anything below that slot.
-falls-anew : (low : ℕ) (a : Arrival) (l : List Arrival) → low ≤ a .slot → neverFallingFrom (a .slot) l ≡ true → neverFallingFrom low (a ∷ l) ≡ true
+falls-anew :
+    (low : ℕ) (a : Arrival) (l : List Arrival) → low ≤ a .slot → neverFallingFrom (a .slot) l ≡ true →
+    neverFallingFrom low (a ∷ l) ≡ true
 unfolding neverFallingFrom
 falls-anew low a l h e = and-eq-true-iff (leb low (a .slot)) (neverFallingFrom (a .slot) l) .1 (le-leb low (a .slot) h, e)
 

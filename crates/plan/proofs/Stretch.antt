@@ -24,7 +24,8 @@ stretch-past bytes from slot h =
 
 -- The bytes between the two boundaries are the stretch.
 pub stretch-is :
-    (bytes : List ℕ) (from slot first after : ℕ) → first ≡ boundary (arrivalsIn bytes) from slot → after ≡ boundary (arrivalsIn bytes) first (slot + 1) →
+    (bytes : List ℕ) (from slot first after : ℕ) → first ≡ boundary (arrivalsIn bytes) from slot →
+    after ≡ boundary (arrivalsIn bytes) first (slot + 1) →
     take (12 * after - 12 * first) (drop (12 * first) bytes) ≡ stretchOf bytes from slot
 unfolding stretchOf stretchEnd stretchStart
 stretch-is bytes from slot first after e f =
@@ -89,14 +90,17 @@ module _ (bytes : List ℕ) (from slot : ℕ) (before : from ≤ leading slot (a
       neverFallingFrom 0 (arrivalsIn bytes) ≡ true → arrivalsIn (stretchOf bytes from slot) ≡ arrivalsOf slot (arrivalsIn bytes)
   stretch-holds e =
       let l = arrivalsIn bytes in
-      let some : leading (slot + 1) l - leading slot l ≡ leading (slot + 1) (drop (leading slot l) l) = omega (arith, leading-next slot l) in
+      let some : leading (slot + 1) l - leading slot l ≡ leading (slot + 1) (drop (leading slot l) l) =
+      omega (arith, leading-next slot l) in
       stretch-entries bytes from slot inside ∙
       ap₂ (λ x y. take (y - x) (drop x l)) starts ends ∙
       ap (λ n. take n (drop (leading slot l) l)) some ∙
       sym (slot-together slot 0 l e)
 
   -- Who has passed over all that is before the slot and adds the stretch has passed over all that is before the next slot.
-  pub walk-on : from ≡ leading slot (arrivalsIn bytes) → from + length (stretchOf bytes from slot) / 12 ≡ leading (slot + 1) (arrivalsIn bytes)
+  pub walk-on :
+      from ≡ leading slot (arrivalsIn bytes) →
+      from + length (stretchOf bytes from slot) / 12 ≡ leading (slot + 1) (arrivalsIn bytes)
   walk-on e =
       let l = length-stretch bytes from slot inside in
       omega (arith, starts, ends, leading-next slot (arrivalsIn bytes))

@@ -28,7 +28,8 @@ length-arrivalsIn bytes = length-table arrivalAt 3 (wordsOf bytes) 0 (length byt
 
 -- A boundary is not before the entry that it is looked for from, nor behind the last entry.
 pub boundary-within :
-    (bytes : List ℕ) (from limit : ℕ) → from ≤ length bytes / 12 → (from ≤ boundary (arrivalsIn bytes) from limit) × (boundary (arrivalsIn bytes) from limit ≤ length bytes / 12)
+    (bytes : List ℕ) (from limit : ℕ) → from ≤ length bytes / 12 →
+    (from ≤ boundary (arrivalsIn bytes) from limit) × (boundary (arrivalsIn bytes) from limit ≤ length bytes / 12)
 unfolding boundary
 boundary-within bytes from limit h =
     let l = arrivalsIn bytes in

@@ -1,5 +1,5 @@
 -- Read and written again: the words of a plan that reads well are those of its contents.
-use Prim.Native.Nat.{ℕ, _+_, _*_, _/_, _%_, _^_, _≤_, _<_}
+use Prim.Native.Nat.{ℕ, suc, _+_, _*_, _/_, _%_, _^_, _≤_, _<_}
 use mathlib.Core.Path.{_≡_, refl, sym, ap, _∙_, subst}
 use mathlib.Core.Bool.{Bool, true, false, _||_, true≢false}
 use mathlib.Core.List.{List, [], _∷_, _++_}
@@ -62,10 +62,23 @@ abbrev nine : List ℕ → List ℕ
 nine ws =
     getD ws 0 0 ∷ getD ws 1 0 ∷ getD ws 2 0 ∷ getD ws 3 0 ∷ getD ws 4 0 ∷ getD ws 5 0 ∷ getD ws 6 0 ∷ getD ws 7 0 ∷ getD ws 8 0 ∷ []
 
+-- A word stands before what is left behind it.
+word-then : {rest : List ℕ} (ws : List ℕ) (i : ℕ) → i < length ws → drop (suc i) ws ≡ rest → drop i ws ≡ getD ws i 0 ∷ rest
+word-then ws i h e = drop-cons ws i 0 h ∙ ap (λ l. getD ws i 0 ∷ l) e
+
 -- Ten words or more are the nine, the sum word and the rest.
 ten-and-on : (ws : List ℕ) → 10 ≤ length ws → ws ≡ nine ws ++ (getD ws 9 0 ∷ drop 10 ws)
 ten-and-on ws h =
-    drop-cons ws 0 0 (omega arith) ∙ ap (λ l. getD ws 0 0 ∷ l) (drop-cons ws 1 0 (omega arith) ∙ ap (λ l. getD ws 1 0 ∷ l) (drop-cons ws 2 0 (omega arith) ∙ ap (λ l. getD ws 2 0 ∷ l) (drop-cons ws 3 0 (omega arith) ∙ ap (λ l. getD ws 3 0 ∷ l) (drop-cons ws 4 0 (omega arith) ∙ ap (λ l. getD ws 4 0 ∷ l) (drop-cons ws 5 0 (omega arith) ∙ ap (λ l. getD ws 5 0 ∷ l) (drop-cons ws 6 0 (omega arith) ∙ ap (λ l. getD ws 6 0 ∷ l) (drop-cons ws 7 0 (omega arith) ∙ ap (λ l. getD ws 7 0 ∷ l) (drop-cons ws 8 0 (omega arith) ∙ ap (λ l. getD ws 8 0 ∷ l) (drop-cons ws 9 0 (omega arith))))))))))
+    word-then ws 0 (omega arith)
+    (word-then ws 1 (omega arith)
+    (word-then ws 2 (omega arith)
+    (word-then ws 3 (omega arith)
+    (word-then ws 4 (omega arith)
+    (word-then ws 5 (omega arith)
+    (word-then ws 6 (omega arith)
+    (word-then ws 7 (omega arith)
+    (word-then ws 8 (omega arith)
+    (drop-cons ws 9 0 (omega arith))))))))))
 
 -- The sum word is the one that the others ask for.
 sum-again : (start rest : List ℕ) (w : ℕ) → w < 2 ^ 32 → sumWords (start ++ (w ∷ rest)) ≡ 0 → sumWord (start ++ rest) ≡ w
@@ -98,8 +111,16 @@ module _ (ws : List ℕ) (h : Header) (laid : Layout (4 * length ws) h) where
       let second : h .connections .start / 4 ≡ 10 + c = omega arith in
       let third : h .arrivals .start / 4 ≡ 10 + (c + 4 * k) = omega arith in
       let all : length (drop 10 ws) ≤ c + 4 * k + 3 * a = omega (arith, length-drop 10 ws) in
-      rw
-      (first, second, third, factors-back ws 10 c (omega arith), connections-back ws (10 + c) k (omega arith), arrivals-back ws (10 + (c + 4 * k)) a (omega arith), ← drop-drop c 10 ws, ← drop-drop (c + 4 * k) 10 ws)
+      rw (
+        first,
+        second,
+        third,
+        factors-back ws 10 c (omega arith),
+        connections-back ws (10 + c) k (omega arith),
+        arrivals-back ws (10 + (c + 4 * k)) a (omega arith),
+        ← drop-drop c 10 ws,
+        ← drop-drop (c + 4 * k) 10 ws,
+      )
       (three-parts (drop 10 ws) c (4 * k) (3 * a) all)
 
   -- The header's words are those that the contents ask for.
@@ -141,5 +162,7 @@ read-and-written bytes h r small =
     let four : length bytes ≡ 4 * length (wordsOf bytes) = omega arith in
     let laid : Layout (4 * length (wordsOf bytes)) h = subst (λ k. Layout k h) four (r .laid) in
     let words =
-    words-same (wordsOf bytes) h laid (r .header) (s .first ∙ four) (sum-facts (wordsOf bytes) (r .summed)) (words-below bytes small 9 (omega arith)) in
+    words-same (wordsOf bytes) h laid (r .header) (s .first ∙ four)
+    (sum-facts (wordsOf bytes) (r .summed))
+    (words-below bytes small 9 (omega arith)) in
     ap bytesOfWords words ∙ bytes-again bytes (s .whole) small

@@ -23,7 +23,9 @@ word-again w h =
     let top : w / 16777216 < 256 = high w h in
     let last : w / 256 / 256 / 256 % 256 ≡ w / 256 / 256 / 256 = mod-eq-of-lt (rw three at top) in
     rw (two, three)
-    (glue w (w / 256) (w / 256 / 256) (w / 256 / 256 / 256) (w % 256) (w / 256 % 256) (w / 256 / 256 % 256) (w / 256 / 256 / 256 % 256) (div-add-mod w 256) (div-add-mod (w / 256) 256) (div-add-mod (w / 256 / 256) 256) last)
+    (glue w (w / 256) (w / 256 / 256) (w / 256 / 256 / 256)
+    (w % 256) (w / 256 % 256) (w / 256 / 256 % 256) (w / 256 / 256 / 256 % 256)
+    (div-add-mod w 256) (div-add-mod (w / 256) 256) (div-add-mod (w / 256 / 256) 256) last)
   where
     high : (n : ℕ) → n < 2 ^ 32 → n / 16777216 < 256
     high n l = omega arith
@@ -76,10 +78,13 @@ word-bytes a b c d ha hb hc hd =
 
 -- A byte below 256 is read back from the word that it is part of.
 byte-again :
-    (bytes : List ℕ) → ((i : ℕ) → getD bytes i 0 < 256) → (at k : ℕ) → k < 4 → getD (bytesOfWord (wordAt bytes at)) (0 + k) 0 ≡ getD bytes (at + k) 0
+    (bytes : List ℕ) → ((i : ℕ) → getD bytes i 0 < 256) → (at k : ℕ) → k < 4 →
+    getD (bytesOfWord (wordAt bytes at)) (0 + k) 0 ≡ getD bytes (at + k) 0
 unfolding wordAt
 byte-again bytes small at k h =
-    ap (λ l. getD l (0 + k) 0) (word-bytes (getD bytes at 0) (getD bytes (at + 1) 0) (getD bytes (at + 2) 0) (getD bytes (at + 3) 0) (small at) (small (at + 1)) (small (at + 2)) (small (at + 3))) ∙
+    ap (λ l. getD l (0 + k) 0)
+    (word-bytes (getD bytes at 0) (getD bytes (at + 1) 0) (getD bytes (at + 2) 0) (getD bytes (at + 3) 0)
+    (small at) (small (at + 1)) (small (at + 2)) (small (at + 3))) ∙
     by k h
   where
     by :
@@ -114,17 +119,19 @@ bytes-again bytes whole small = ext-getD 0 (bytesOfWords (wordsOf bytes)) bytes 
         ap (λ m. getD bytes m 0) (sym at)
 
 -- Entries are read back from their words, whatever stands behind those.
-module _ {A : Type 0} (entry : List ℕ → ℕ → A) (width : ℕ) (own : Local entry width) (words : A → List ℕ) (wide : (a : A) → length (words a) ≡ width)
-    (back : (a : A) (rest : List ℕ) → entry (words a ++ rest) 0 ≡ a) where
+module _ {A : Type 0} (entry : List ℕ → ℕ → A) (width : ℕ) (own : Local entry width)
+    (words : A → List ℕ) (wide : (a : A) → length (words a) ≡ width) (back : (a : A) (rest : List ℕ) → entry (words a ++ rest) 0 ≡ a) where
   entries-again : (entries : List A) (rest : List ℕ) → table entry width (flatten (map words entries) ++ rest) 0 (length entries) ≡ entries
   unfolding table flatten
   entries-again [] rest = refl
   entries-again (a ∷ entries) rest =
       let more = flatten (map words entries) ++ rest in
-      let apart : words a ++ flatten (map words entries) ++ rest ≡ words a ++ more = append-assoc (words a) (flatten (map words entries)) rest in
+      let apart : words a ++ flatten (map words entries) ++ rest ≡ words a ++ more =
+      append-assoc (words a) (flatten (map words entries)) rest in
       ap (λ ws. table entry width ws 0 (suc (length entries))) apart ∙
       ap₂ _∷_ (back a more)
-      (table-same entry width own (words a ++ more) more (0 + width) 0 (length entries) (λ k h. behind a more k) ∙ entries-again entries rest)
+      (table-same entry width own (words a ++ more) more (0 + width) 0 (length entries) (λ k h. behind a more k) ∙
+      entries-again entries rest)
     where
       behind : (a : A) (more : List ℕ) (k : ℕ) → getD (words a ++ more) (0 + width + k) 0 ≡ getD more (0 + k) 0
       behind a more k =

@@ -67,7 +67,8 @@ lent-writable : (l : Lent) → Fits l → lentWrong l ≡ false → slotsWrong (
 unfolding lentPlan lentWrong lengthsWrong
 lent-writable l fits right slots =
     let w = lengths-facts (length (l .factors)) (length (l .connections)) (length (l .arrivals)) right in
-    let words = both-fit (l .factors ++ l .connections) (l .arrivals) (both-fit (l .factors) (l .connections) (fits .factors-fit) (fits .connections-fit)) (fits .arrivals-fit) in
+    let front = both-fit (l .factors) (l .connections) (fits .factors-fit) (fits .connections-fit) in
+    let words = both-fit (l .factors ++ l .connections) (l .arrivals) front (fits .arrivals-fit) in
     record {
       factors-few = w .factors-few;
       connections-few = rw (length-table connectionAt 4 (l .connections) 0 (length (l .connections) / 4)) (w .connections-few);
@@ -87,7 +88,8 @@ unfolding bytesAfter bytesBy
 write-then-read l buf size fits done =
     let t = write-facts l buf size done in
     let long : length (planBytes (lentPlan l)) ≡ size = length-plan (lentPlan l) ∙ sym (t .size-is) in
-    rw (done, take-at (planBytes (lentPlan l)) (drop size buf) size long) (written-and-read (lentPlan l) (lent-writable l fits (t .right) (t .slots-right)))
+    rw (done, take-at (planBytes (lentPlan l)) (drop size buf) size long)
+    (written-and-read (lentPlan l) (lent-writable l fits (t .right) (t .slots-right)))
 
 -- Contents that are lent to the writer are the contents that it writes.
 pub lent-again : (plan : Plan) → lentPlan (lentOf plan) ≡ plan
@@ -105,7 +107,8 @@ lent-again plan =
 
 -- Contents of few enough entries are lent right.
 lent-right :
-    (plan : Plan) → length (plan .settings .factors) ≤ 8 → length (plan .connections) ≤ 32 → length (plan .arrivals) ≤ 4096 → lentWrong (lentOf plan) ≡ false
+    (plan : Plan) → length (plan .settings .factors) ≤ 8 → length (plan .connections) ≤ 32 → length (plan .arrivals) ≤ 4096 →
+    lentWrong (lentOf plan) ≡ false
 unfolding lentWrong lentOf lengthsWrong
 lent-right plan f k n =
     let c = length-connections (plan .connections) in
@@ -121,7 +124,8 @@ lent-right plan f k n =
 
 -- "writing what was read gives the bytes"
 pub read-then-write :
-    (bytes : List ℕ) (h : Header) (buf : List ℕ) → ((i : ℕ) → getD bytes i 0 < 256) → readingAnswer bytes ≡ PlanRead.Good h → length bytes ≤ length buf →
+    (bytes : List ℕ) (h : Header) (buf : List ℕ) → ((i : ℕ) → getD bytes i 0 < 256) →
+    readingAnswer bytes ≡ PlanRead.Good h → length bytes ≤ length buf →
     (writingAnswer (lentOf (contentsOf (wordsOf bytes) h)) (length buf) ≡ PlanWritten.Written (length bytes)) ×
     (bytesAfter (lentOf (contentsOf (wordsOf bytes) h)) buf ≡ bytes ++ drop (length bytes) buf)
 unfolding contentsOf pasted

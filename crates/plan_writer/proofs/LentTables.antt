@@ -39,8 +39,13 @@ lengths-facts f c a e =
 pub lengths-right : (f c a : ℕ) → Lengths f c a → lengthsWrong f c a ≡ false
 unfolding lengthsWrong countsAllowed
 lengths-right f c a l =
-    rw
-    (le-leb _ _ (l .factors-few), le-leb _ _ (l .connections-few), le-leb _ _ (l .arrivals-few), eq-eqb _ _ (l .connections-whole), eq-eqb _ _ (l .arrivals-whole))
+    rw (
+      le-leb _ _ (l .factors-few),
+      le-leb _ _ (l .connections-few),
+      le-leb _ _ (l .arrivals-few),
+      eq-eqb _ _ (l .connections-whole),
+      eq-eqb _ _ (l .arrivals-whole),
+    )
 
 -- Where all else is right, the last test decides.
 pub lengths-last :
@@ -48,22 +53,31 @@ pub lengths-last :
 unfolding lengthsWrong countsAllowed
 lengths-last f c a p q r s = rw (le-leb _ _ p, le-leb _ _ q, le-leb _ _ r, eq-eqb _ _ s)
 
-module _ (interval cycle : ℕ) (factors connections arrivals : List ℕ) (whole : Lengths (length factors) (length connections) (length arrivals)) where
+module _ (interval cycle : ℕ) (factors connections arrivals : List ℕ)
+    (whole : Lengths (length factors) (length connections) (length arrivals)) where
   -- The plan of lent tables has the size that their lengths tell.
   pub size-of-lent :
-      sizeOf (lentPlan (lent interval cycle factors connections arrivals)) ≡ lentSize (length factors) (length connections) (length arrivals)
+      sizeOf (lentPlan (lent interval cycle factors connections arrivals)) ≡
+      lentSize (length factors) (length connections) (length arrivals)
   unfolding sizeOf lentPlan
   size-of-lent =
-      rw (length-table connectionAt 4 connections 0 (length connections / 4), length-table arrivalAt 3 arrivals 0 (length arrivals / 3)) (omega arith)
+      let k = length-table connectionAt 4 connections 0 (length connections / 4) in
+      let n = length-table arrivalAt 3 arrivals 0 (length arrivals / 3) in
+      rw (k, n) (omega arith)
 
   -- The words of its tables are the words that were lent.
   pub tables-of-lent : tableWords (lentPlan (lent interval cycle factors connections arrivals)) ≡ factors ++ connections ++ arrivals
   unfolding tableWords lentPlan
   tables-of-lent =
-      let c : take (4 * (length connections / 4)) connections ≡ connections = take-all (4 * (length connections / 4)) connections (omega arith) in
+      let c : take (4 * (length connections / 4)) connections ≡ connections =
+      take-all (4 * (length connections / 4)) connections (omega arith) in
       let a : take (3 * (length arrivals / 3)) arrivals ≡ arrivals = take-all (3 * (length arrivals / 3)) arrivals (omega arith) in
-      rw
-      (connections-back connections 0 (length connections / 4) (omega arith), arrivals-back arrivals 0 (length arrivals / 3) (omega arith), c, a)
+      rw (
+        connections-back connections 0 (length connections / 4) (omega arith),
+        arrivals-back arrivals 0 (length arrivals / 3) (omega arith),
+        c,
+        a,
+      )
 
   -- The words of its header are those that the lengths of the tables tell.
   header-of-lent :
@@ -76,7 +90,9 @@ module _ (interval cycle : ℕ) (factors connections arrivals : List ℕ) (whole
       40 + 4 * length factors + 4 * length connections + 12 * (length arrivals / 3) ≡
       lentSize (length factors) (length connections) (length arrivals) =
       omega arith in
-      rw (length-table connectionAt 4 connections 0 (length connections / 4), length-table arrivalAt 3 arrivals 0 (length arrivals / 3), c, a)
+      let k = length-table connectionAt 4 connections 0 (length connections / 4) in
+      let n = length-table arrivalAt 3 arrivals 0 (length arrivals / 3) in
+      rw (k, n, c, a)
 
   -- The words that were put, in their order, are the words of the plan, once the last word of the header brings the sum to 0.
   pub words-put :

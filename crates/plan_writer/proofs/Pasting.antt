@@ -14,7 +14,8 @@ use Rattle.plan_writer.specs.Bytes.{bytesOfWords, pasted}
 pub bytes-append : (ws vs : List ℕ) → bytesOfWords (ws ++ vs) ≡ bytesOfWords ws ++ bytesOfWords vs
 unfolding bytesOfWords flatten
 bytes-append [] vs = refl
-bytes-append (w ∷ ws) vs = ap (λ l. bytesOfWord w ++ l) (bytes-append ws vs) ∙ sym (append-assoc (bytesOfWord w) (bytesOfWords ws) (bytesOfWords vs))
+bytes-append (w ∷ ws) vs =
+    ap (λ l. bytesOfWord w ++ l) (bytes-append ws vs) ∙ sym (append-assoc (bytesOfWord w) (bytesOfWords ws) (bytesOfWords vs))
 
 -- A word has four bytes in the bytes of words.
 pub length-bytes : (ws : List ℕ) → length (bytesOfWords ws) ≡ 4 * length ws
@@ -44,8 +45,8 @@ length-pasted buf at xs h = simp (length-append, length-take, length-drop) (omeg
 
 -- What is put behind what was put is put in one.
 pub paste-more :
-    (buf : List ℕ) (at : ℕ) (xs ys : List ℕ) (next : ℕ) → next ≡ at + length xs → at + length xs + length ys ≤ length buf → pasted (pasted buf at xs) next ys ≡
-    pasted buf at (xs ++ ys)
+    (buf : List ℕ) (at : ℕ) (xs ys : List ℕ) (next : ℕ) → next ≡ at + length xs → at + length xs + length ys ≤ length buf →
+    pasted (pasted buf at xs) next ys ≡ pasted buf at (xs ++ ys)
 unfolding pasted
 paste-more buf at xs ys next e h =
     rw (front, back) (simp append-assoc)
@@ -78,11 +79,13 @@ paste-more buf at xs ys next e h =
 
 -- One word more, put behind the words before it, is put in one with them.
 pub paste-word :
-    (buf : List ℕ) (at : ℕ) (ws : List ℕ) (i : ℕ) → i < length ws → at + 4 * length ws ≤ length buf → pasted (pasted buf at (bytesOfWords (take i ws))) (at + 4 * i) (bytesOfWord (getD ws i 0)) ≡
+    (buf : List ℕ) (at : ℕ) (ws : List ℕ) (i : ℕ) → i < length ws → at + 4 * length ws ≤ length buf →
+    pasted (pasted buf at (bytesOfWords (take i ws))) (at + 4 * i) (bytesOfWord (getD ws i 0)) ≡
     pasted buf at (bytesOfWords (take (i + 1) ws))
 paste-word buf at ws i h r =
     let long : length (bytesOfWords (take i ws)) ≡ 4 * i = length-bytes (take i ws) ∙ ap (λ k. 4 * k) (length-take-le i ws (omega arith)) in
-    paste-more buf at (bytesOfWords (take i ws)) (bytesOfWord (getD ws i 0)) (at + 4 * i) (omega arith) (omega (arith, length-word (getD ws i 0))) ∙
+    let four = length-word (getD ws i 0) in
+    paste-more buf at (bytesOfWords (take i ws)) (bytesOfWord (getD ws i 0)) (at + 4 * i) (omega arith) (omega arith) ∙
     ap (pasted buf at) (sym one-more)
   where
     one-more : bytesOfWords (take (i + 1) ws) ≡ bytesOfWords (take i ws) ++ bytesOfWord (getD ws i 0)
@@ -97,11 +100,15 @@ pub paste-four :
     pasted buf at (a ∷ b ∷ c ∷ d ∷ [])
 unfolding pasted
 paste-four buf at a b c d h =
-    simp towards-suc (sets-eq (a ∷ b ∷ c ∷ d ∷ []) buf at h ∙ append-assoc (take at buf) (a ∷ b ∷ c ∷ d ∷ []) (drop (at + 4) buf) ∙ simp towards-suc)
+    simp towards-suc
+    (sets-eq (a ∷ b ∷ c ∷ d ∷ []) buf at h ∙
+    append-assoc (take at buf) (a ∷ b ∷ c ∷ d ∷ []) (drop (at + 4) buf) ∙
+    simp towards-suc)
 
 -- Words put behind words are put in one.
 pub paste-words :
-    (buf ws vs : List ℕ) (next : ℕ) → next ≡ 4 * length ws → next + 4 * length vs ≤ length buf → pasted (pasted buf 0 (bytesOfWords ws)) next (bytesOfWords vs) ≡
+    (buf ws vs : List ℕ) (next : ℕ) → next ≡ 4 * length ws → next + 4 * length vs ≤ length buf →
+    pasted (pasted buf 0 (bytesOfWords ws)) next (bytesOfWords vs) ≡
     pasted buf 0 (bytesOfWords (ws ++ vs))
 paste-words buf ws vs next e h =
     let lw = length-bytes ws in
@@ -110,7 +117,8 @@ paste-words buf ws vs next e h =
 
 -- Four lists of words, put one behind another, are put in one.
 pub paste-four-words :
-    (buf h f c a : List ℕ) (n₁ n₂ n₃ : ℕ) → n₁ ≡ 4 * length h → n₂ ≡ n₁ + 4 * length f → n₃ ≡ n₂ + 4 * length c → n₃ + 4 * length a ≤ length buf →
+    (buf h f c a : List ℕ) (n₁ n₂ n₃ : ℕ) → n₁ ≡ 4 * length h → n₂ ≡ n₁ + 4 * length f → n₃ ≡ n₂ + 4 * length c →
+    n₃ + 4 * length a ≤ length buf →
     pasted (pasted (pasted (pasted buf 0 (bytesOfWords h)) n₁ (bytesOfWords f)) n₂ (bytesOfWords c)) n₃ (bytesOfWords a) ≡
     pasted buf 0 (bytesOfWords (h ++ f ++ c ++ a))
 paste-four-words buf h f c a n₁ n₂ n₃ e₁ e₂ e₃ r =

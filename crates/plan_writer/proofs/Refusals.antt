@@ -9,10 +9,13 @@ use Rattle.meaning.specs.declared.PlanWritten.{PlanWritten}
 use Rattle.meaning.specs.Plan.{Lent, lentPlan, lentWrong, sizeOf, slotsWrong, writingAnswer}
 use Rattle.plan_writer.specs.FirstRefusal.{writingOf, writingNumber}
 
+-- The answer of writing, by its three tests in their order.
+abbrev writingBy : Bool → Bool → Bool → ℕ → PlanWritten
+writingBy a b c n = cond a PlanWritten.WrongLayout (cond b PlanWritten.WrongSlots (cond c PlanWritten.TooShort (PlanWritten.Written n)))
+
 -- The number of an answer of writing is that of the first test that refuses.
 written-number :
-    (a b c : Bool) (n : ℕ) → planWritten (cond a PlanWritten.WrongLayout (cond b PlanWritten.WrongSlots (cond c PlanWritten.TooShort (PlanWritten.Written n)))) .number ≡
-    writingOf a b c
+    (a b c : Bool) (n : ℕ) → planWritten (writingBy a b c n) .number ≡ writingOf a b c
 unfolding planWritten refusal
 written-number true b c n = refl
 written-number false true c n = refl
@@ -64,11 +67,15 @@ module _ (l : Lent) (room : ℕ) where
       written-only-16 (lentWrong l) (slotsWrong (lentPlan l .arrivals)) (ltb room (sizeOf (lentPlan l))) (sym writing-number ∙ e)
 
   -- 17 is answered only where tables and slots are right and the buffer is too short.
-  pub writing-17-only : writingNumber l room ≡ 17 → (lentWrong l ≡ false) × (slotsWrong (lentPlan l .arrivals) ≡ false) × (ltb room (sizeOf (lentPlan l)) ≡ true)
+  pub writing-17-only :
+      writingNumber l room ≡ 17 →
+      (lentWrong l ≡ false) × (slotsWrong (lentPlan l .arrivals) ≡ false) × (ltb room (sizeOf (lentPlan l)) ≡ true)
   writing-17-only e =
       written-only-17 (lentWrong l) (slotsWrong (lentPlan l .arrivals)) (ltb room (sizeOf (lentPlan l))) (sym writing-number ∙ e)
 
   -- 0 is answered only where every test passes.
-  pub writing-0-only : writingNumber l room ≡ 0 → (lentWrong l ≡ false) × (slotsWrong (lentPlan l .arrivals) ≡ false) × (ltb room (sizeOf (lentPlan l)) ≡ false)
+  pub writing-0-only :
+      writingNumber l room ≡ 0 →
+      (lentWrong l ≡ false) × (slotsWrong (lentPlan l .arrivals) ≡ false) × (ltb room (sizeOf (lentPlan l)) ≡ false)
   writing-0-only e =
       written-only-0 (lentWrong l) (slotsWrong (lentPlan l .arrivals)) (ltb room (sizeOf (lentPlan l))) (sym writing-number ∙ e)

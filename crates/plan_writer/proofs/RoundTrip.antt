@@ -100,7 +100,8 @@ module _ (plan : Plan) where
 
   -- The arrivals are read back, behind the connections.
   arrivals-read :
-      table arrivalAt 3 (planWords plan) (10 + length (plan .settings .factors) + 4 * length (plan .connections)) (length (plan .arrivals)) ≡
+      table arrivalAt 3 (planWords plan)
+      (10 + length (plan .settings .factors) + 4 * length (plan .connections)) (length (plan .arrivals)) ≡
       plan .arrivals
   unfolding tableWords
   arrivals-read =
@@ -173,6 +174,8 @@ written-reads plan w =
 
 -- "written and read back: same contents"
 pub written-and-read :
-    (plan : Plan) → Writable plan → (readingAnswer (planBytes plan) ≡ PlanRead.Good (headerOf (planWords plan))) × (contentsOf (wordsOf (planBytes plan)) (headerOf (planWords plan)) ≡ plan)
+    (plan : Plan) → Writable plan →
+    (readingAnswer (planBytes plan) ≡ PlanRead.Good (headerOf (planWords plan))) ×
+    (contentsOf (wordsOf (planBytes plan)) (headerOf (planWords plan)) ≡ plan)
 written-and-read plan w =
     (read-back (planBytes plan) (headerOf (planWords plan)) (written-reads plan w), rw (words-back plan w) (contents-back plan))

@@ -9,6 +9,7 @@ use Rattle.plan_writer.specs.Written.{bytesAfter}
 
 -- Two answers of `write`, and the buffers that they leave, are the same.
 pub write-settled :
-    (l : Lent) (buf : List ℕ) (r s : PlanWritten) (after left : List ℕ) → r ≡ writingAnswer l (length buf) → s ≡ writingAnswer l (length buf) →
+    (l : Lent) (buf : List ℕ) (r s : PlanWritten) (after left : List ℕ) →
+    r ≡ writingAnswer l (length buf) → s ≡ writingAnswer l (length buf) →
     after ≡ bytesAfter l buf → left ≡ bytesAfter l buf → (r ≡ s) × (after ≡ left)
 write-settled l buf r s after left p q u v = (p ∙ sym q, u ∙ sym v)

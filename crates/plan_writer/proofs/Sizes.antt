@@ -24,7 +24,8 @@ length-arrivals (a ∷ l) = omega (arith, length-arrivals l)
 
 -- The tables have a word a factor, four a connection and three an arrival.
 pub length-tables :
-    (plan : Plan) → length (tableWords plan) ≡ length (plan .settings .factors) + 4 * length (plan .connections) + 3 * length (plan .arrivals)
+    (plan : Plan) →
+    length (tableWords plan) ≡ length (plan .settings .factors) + 4 * length (plan .connections) + 3 * length (plan .arrivals)
 unfolding tableWords
 length-tables plan =
     simp length-append (omega (arith, length-connections (plan .connections), length-arrivals (plan .arrivals)))

@@ -20,7 +20,13 @@ module _ {A : Type 0} (entry : List ℕ → ℕ → A) (width : ℕ) where
   words-of-table words back ws i zero h = rw mul-zero
   words-of-table words back ws i (suc n) h =
       let m : width * suc n ≡ width + width * n = omega (arith, mul-suc width n) in
-      rw (back ws i (omega arith), words-of-table words back ws (i + width) n (omega arith), m, take-add width (width * n) (drop i ws), drop-drop width i ws)
+      rw (
+        back ws i (omega arith),
+        words-of-table words back ws (i + width) n (omega arith),
+        m,
+        take-add width (width * n) (drop i ws),
+        drop-drop width i ws,
+      )
 
 -- A word of the list and what stands behind it.
 step : (ws : List ℕ) (i : ℕ) → i < length ws → drop i ws ≡ getD ws i 0 ∷ drop (suc i) ws
@@ -31,7 +37,12 @@ pub connection-words : (ws : List ℕ) (i : ℕ) → i + 4 ≤ length ws → con
 unfolding connectionWords connectionAt
 connection-words ws i h =
     simp towards-suc
-    (rw (step ws i (omega arith), step ws (suc i) (omega arith), step ws (suc (suc i)) (omega arith), step ws (suc (suc (suc i))) (omega arith)))
+    (rw (
+      step ws i (omega arith),
+      step ws (suc i) (omega arith),
+      step ws (suc (suc i)) (omega arith),
+      step ws (suc (suc (suc i))) (omega arith),
+    ))
 
 -- An arrival's words are the three from its place on.
 pub arrival-words : (ws : List ℕ) (i : ℕ) → i + 3 ≤ length ws → arrivalWords (arrivalAt ws i) ≡ take 3 (drop i ws)

@@ -60,7 +60,8 @@ fn put_plan(
 )
     requires { ⌜ Lengths (length (now factors)) (length (now connections)) (length (now arrivals)) ⌝ }
     requires { ⌜ lentSize (length (now factors)) (length (now connections)) (length (now arrivals)) ≤ length (now buf) ⌝ }
-    ensures { λ _. ⌜ now (buf .exit) ≡ pasted (now (buf .entry)) 0 (planBytes (lentPlan (lent interval cycle (now (factors .entry)) (now (connections .entry)) (now (arrivals .entry))))) ⌝ }
+    ensures { λ _. ⌜ now (buf .exit) ≡ pasted (now (buf .entry)) 0
+        (planBytes (lentPlan (lent interval cycle (now (factors .entry)) (now (connections .entry)) (now (arrivals .entry))))) ⌝ }
 {
     let after_classes = 40 + 4 * factors.len();
     let after_connections = after_classes + 4 * connections.len();
@@ -97,8 +98,12 @@ pub fn write(
     arrivals: &[u32],
     buf: &mut [u8],
 ) -> PlanWritten
-    ensures answer { λ r. ⌜ r ≡ writingAnswer (lent interval cycle (now (factors .entry)) (now (connections .entry)) (now (arrivals .entry))) (length (now (buf .entry))) ⌝ }
-    ensures bytes { λ r. ⌜ now (buf .exit) ≡ bytesAfter (lent interval cycle (now (factors .entry)) (now (connections .entry)) (now (arrivals .entry))) (now (buf .entry)) ⌝ }
+    ensures answer { λ r. ⌜ r ≡ writingAnswer
+        (lent interval cycle (now (factors .entry)) (now (connections .entry)) (now (arrivals .entry)))
+        (length (now (buf .entry))) ⌝ }
+    ensures bytes { λ _. ⌜ now (buf .exit) ≡ bytesAfter
+        (lent interval cycle (now (factors .entry)) (now (connections .entry)) (now (arrivals .entry)))
+        (now (buf .entry)) ⌝ }
 {
     if lent_wrong(factors.len(), connections.len(), arrivals.len()) {
         return PlanWritten::WrongLayout;

@@ -1,4 +1,5 @@
--- `reading::layout_wrong` meets its contract: each answer follows from the tests that led to it. Assumes nothing.
+-- `reading::layout_wrong` meets its contract: each answer follows from the tests that led to it, whose places are named `first`
+-- to `sixth`. Assumes nothing.
 use borrow.Author.Tests.{le-leb, lt-leb, eq-eqb, ne-eqb}
 use Rattle.meaning.specs.Plan.{layoutWrong, countsAllowed}
 use borrow.Author.Needs.{needs}
@@ -18,14 +19,22 @@ returns-2 c =
 returns-3 : tie.Need-returns-3
 unfolding layoutWrong countsAllowed
 returns-3 c =
-    simp
-    (le-leb _ _ (c .before .before .before .before .if1 .left), le-leb _ _ (c .before .before .if2 .left), lt-leb _ _ (c .if3 .taken))
+    let second = c .before .before in
+    let first = second .before .before in
+    simp (le-leb _ _ (first .if1 .left), le-leb _ _ (second .if2 .left), lt-leb _ _ (c .if3 .taken))
 
 returns-4 : tie.Need-returns-4
 unfolding layoutWrong countsAllowed
 returns-4 c =
-    simp
-    (le-leb _ _ (c .before .before .before .before .before .before .if1 .left), le-leb _ _ (c .before .before .before .before .if2 .left), le-leb _ _ (c .before .before .if3 .left), ne-eqb _ _ (c .if4 .taken))
+    let third = c .before .before in
+    let second = third .before .before in
+    let first = second .before .before in
+    simp (
+      le-leb _ _ (first .if1 .left),
+      le-leb _ _ (second .if2 .left),
+      le-leb _ _ (third .if3 .left),
+      ne-eqb _ _ (c .if4 .taken),
+    )
 
 mul-after-classes : tie.Need-mul-after-classes
 mul-after-classes c = search needs
@@ -36,8 +45,17 @@ add-after-classes c = search needs
 returns-5 : tie.Need-returns-5
 unfolding layoutWrong countsAllowed
 returns-5 c =
-    simp
-    (le-leb _ _ (c .before .before .before .before .before .before .before .before .before .if1 .left), le-leb _ _ (c .before .before .before .before .before .before .before .if2 .left), le-leb _ _ (c .before .before .before .before .before .if3 .left), eq-eqb _ _ (c .before .before .before .if4 .left), ne-eqb _ _ (c .if5 .taken))
+    let fourth = c .before .before .before in
+    let third = fourth .before .before in
+    let second = third .before .before in
+    let first = second .before .before in
+    simp (
+      le-leb _ _ (first .if1 .left),
+      le-leb _ _ (second .if2 .left),
+      le-leb _ _ (third .if3 .left),
+      eq-eqb _ _ (fourth .if4 .left),
+      ne-eqb _ _ (c .if5 .taken),
+    )
 
 mul-after-connections : tie.Need-mul-after-connections
 mul-after-connections c = search needs
@@ -48,8 +66,19 @@ add-after-connections c = search needs
 returns-6 : tie.Need-returns-6
 unfolding layoutWrong countsAllowed
 returns-6 c =
-    simp
-    (le-leb _ _ (c .before .before .before .before .before .before .before .before .before .before .before .before .if1 .left), le-leb _ _ (c .before .before .before .before .before .before .before .before .before .before .if2 .left), le-leb _ _ (c .before .before .before .before .before .before .before .before .if3 .left), eq-eqb _ _ (c .before .before .before .before .before .before .if4 .left), eq-eqb _ _ (c .before .before .before .if5 .left), ne-eqb _ _ (c .if6 .taken))
+    let fifth = c .before .before .before in
+    let fourth = fifth .before .before .before in
+    let third = fourth .before .before in
+    let second = third .before .before in
+    let first = second .before .before in
+    simp (
+      le-leb _ _ (first .if1 .left),
+      le-leb _ _ (second .if2 .left),
+      le-leb _ _ (third .if3 .left),
+      eq-eqb _ _ (fourth .if4 .left),
+      eq-eqb _ _ (fifth .if5 .left),
+      ne-eqb _ _ (c .if6 .taken),
+    )
 
 mul-result : tie.Need-mul-result
 mul-result c = search needs
@@ -60,8 +89,20 @@ add-result c = search needs
 returns-7 : tie.Need-returns-7
 unfolding layoutWrong countsAllowed
 returns-7 c =
-    simp
-    (le-leb _ _ (c .before .before .before .before .before .before .before .before .before .before .before .before .before .if1 .left), le-leb _ _ (c .before .before .before .before .before .before .before .before .before .before .before .if2 .left), le-leb _ _ (c .before .before .before .before .before .before .before .before .before .if3 .left), eq-eqb _ _ (c .before .before .before .before .before .before .before .if4 .left), eq-eqb _ _ (c .before .before .before .before .if5 .left), eq-eqb _ _ (c .before .if6 .left))
+    let sixth = c .before in
+    let fifth = sixth .before .before .before in
+    let fourth = fifth .before .before .before in
+    let third = fourth .before .before in
+    let second = third .before .before in
+    let first = second .before .before in
+    simp (
+      le-leb _ _ (first .if1 .left),
+      le-leb _ _ (second .if2 .left),
+      le-leb _ _ (third .if3 .left),
+      eq-eqb _ _ (fourth .if4 .left),
+      eq-eqb _ _ (fifth .if5 .left),
+      eq-eqb _ _ (sixth .if6 .left),
+    )
 
 pub layout-wrong-spec : {M : Type 1} → statement M
 layout-wrong-spec =

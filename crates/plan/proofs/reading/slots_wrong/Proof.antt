@@ -1,4 +1,5 @@
--- `reading::slots_wrong` meets its contract. The loop's invariant: the arrivals that are left pass the test exactly when all do. Assumes nothing.
+-- `reading::slots_wrong` meets its contract. The loop's invariant: the arrivals that are left pass the test exactly when all do.
+-- Assumes nothing.
 use denote.Ref.{now}
 use Prim.Native.Nat.{_+_, _-_, _/_, _≤_, _<_}
 use mathlib.Core.Bool.{true, false}
@@ -14,7 +15,9 @@ use Rattle.plan.proofs.reading.slots_wrong.Statement.{statement}
 use Rattle.plan.proofs.reading.slots_wrong.Tie as tie
 
 abbrev Inv-loop : tie.InvT-loop
-Inv-loop arrivals count low₀ i₀ low i = (i ≤ count) × (count ≡ length arrivals / 12) × (slotsGoodFrom low (drop i (arrivalsIn arrivals)) ≡ slotsGoodFrom 0 (arrivalsIn arrivals))
+Inv-loop arrivals count low₀ i₀ low i =
+    (i ≤ count) × (count ≡ length arrivals / 12) ×
+    (slotsGoodFrom low (drop i (arrivalsIn arrivals)) ≡ slotsGoodFrom 0 (arrivalsIn arrivals))
 
 abbrev μ-loop : tie.MeasureT-loop
 μ-loop arrivals count low₀ i₀ low i = count - i

@@ -11,7 +11,11 @@ returns : tie.Need-returns
 unfolding arrivalAt
 returns c =
     let a = c .before .before .args in
-    rw (word-past (a .arrivals .now) (3 * a .i) (omega arith), word-past (a .arrivals .now) (3 * a .i + 1) (omega arith), word-past (a .arrivals .now) (3 * a .i + 2) (omega arith))
+    rw (
+      word-past (a .arrivals .now) (3 * a .i) (omega arith),
+      word-past (a .arrivals .now) (3 * a .i + 1) (omega arith),
+      word-past (a .arrivals .now) (3 * a .i + 2) (omega arith),
+    )
 
 mul-number : tie.Need-mul-number
 mul-number c = search needs

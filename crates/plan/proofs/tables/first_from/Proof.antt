@@ -11,7 +11,8 @@ use Rattle.plan.proofs.tables.first_from.Statement.{statement}
 use Rattle.plan.proofs.tables.first_from.Tie as tie
 
 abbrev Inv-loop : tie.InvT-loop
-Inv-loop arrivals from limit count i₀ i = (count ≡ length arrivals / 12) × (boundary (arrivalsIn arrivals) i limit ≡ boundary (arrivalsIn arrivals) from limit)
+Inv-loop arrivals from limit count i₀ i =
+    (count ≡ length arrivals / 12) × (boundary (arrivalsIn arrivals) i limit ≡ boundary (arrivalsIn arrivals) from limit)
 
 abbrev μ-loop : tie.MeasureT-loop
 μ-loop arrivals from limit count i₀ i = count - i

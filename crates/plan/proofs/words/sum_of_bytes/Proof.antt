@@ -13,7 +13,9 @@ use Rattle.plan.proofs.words.sum_of_bytes.Statement.{statement}
 use Rattle.plan.proofs.words.sum_of_bytes.Tie as tie
 
 abbrev Inv-loop : tie.InvT-loop
-Inv-loop bytes count sum₀ i₀ sum i = (i ≤ count) × (count ≡ length bytes / 4) × (sum < 2 ^ 32) × ((sum + sumFrom (wordsOf bytes) i) % 2 ^ 32 ≡ sumWords (wordsOf bytes))
+Inv-loop bytes count sum₀ i₀ sum i =
+    (i ≤ count) × (count ≡ length bytes / 4) × (sum < 2 ^ 32) ×
+    ((sum + sumFrom (wordsOf bytes) i) % 2 ^ 32 ≡ sumWords (wordsOf bytes))
 
 abbrev μ-loop : tie.MeasureT-loop
 μ-loop bytes count sum₀ i₀ sum i = count - i

@@ -1,4 +1,4 @@
--- `words::word` meets its contract: the four bytes, each below 256, are those of the word that the law `word-within` names. Assumes nothing.
+-- `words::word` meets its contract: the four bytes, each below 256, are those of the word that `word-within` names. Assumes nothing.
 use denote.Ref.{now}
 use native.Mathlib.Omega.{arith}
 use Rattle.meaning.specs.Plan.{wordAt}

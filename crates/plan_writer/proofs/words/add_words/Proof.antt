@@ -10,7 +10,9 @@ use Rattle.plan_writer.proofs.words.add_words.Statement.{statement}
 use Rattle.plan_writer.proofs.words.add_words.Tie as tie
 
 abbrev Inv-loop : tie.InvT-loop
-Inv-loop first words sum₀ i₀ sum i = (i ≤ length words) × (sum < 2 ^ 32) × ((sum + sumFrom words i) % 2 ^ 32 ≡ (first + sumOf (λ w. w) words) % 2 ^ 32)
+Inv-loop first words sum₀ i₀ sum i =
+    (i ≤ length words) × (sum < 2 ^ 32) ×
+    ((sum + sumFrom words i) % 2 ^ 32 ≡ (first + sumOf (λ w. w) words) % 2 ^ 32)
 
 abbrev μ-loop : tie.MeasureT-loop
 μ-loop first words sum₀ i₀ sum i = length words - i

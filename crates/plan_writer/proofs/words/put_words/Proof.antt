@@ -1,4 +1,5 @@
--- `words::put_words` meets its contract. The loop's invariant: the words that were put are the first i, and the buffer is as long as it was. Assumes nothing.
+-- `words::put_words` meets its contract. The loop's invariant: the words that were put are the first i, and the buffer is as long as
+-- it was. Assumes nothing.
 use mathlib.Core.List.{flatten}
 use lib.ListN.{length, take, getD}
 use lib.Seq.{take-all}
@@ -49,7 +50,8 @@ loop-again c =
     let a = c .before .before .before .before .before .before .before .before .before .args in
     let put = c .before .before .put-word in
     let was = ap (λ b. pasted b (a .at + 4 * l .i) (bytesOfWord (getD (a .words .now) (l .i) 0))) (l .inv .2) in
-    (omega arith, put .kept .0 ∙ l .inv .1, put .ensures ∙ was ∙ paste-word (a .buf .now) (a .at) (a .words .now) (l .i) (omega arith) (omega arith))
+    let more = paste-word (a .buf .now) (a .at) (a .words .now) (l .i) (omega arith) (omega arith) in
+    (omega arith, put .kept .0 ∙ l .inv .1, put .ensures ∙ was ∙ more)
 
 same-length : tie.Need-same-length Inv-loop μ-loop
 same-length c = c .before .loop .inv .1
@@ -57,7 +59,8 @@ same-length c = c .before .loop .inv .1
 returns : tie.Need-returns Inv-loop μ-loop
 returns c =
     let a = c .before .before .before .before .args in
-    c .before .loop .inv .2 ∙ ap (λ l. pasted (a .buf .now) (a .at) (bytesOfWords l)) (take-all (c .before .loop .i) (a .words .now) (omega arith))
+    let l = c .before .loop in
+    l .inv .2 ∙ ap (λ ws. pasted (a .buf .now) (a .at) (bytesOfWords ws)) (take-all (l .i) (a .words .now) (omega arith))
 
 pub put-words-spec : {M : Type 1} → statement M
 put-words-spec =

@@ -1,4 +1,5 @@
--- `writing::lent_wrong` meets its contract: each answer follows from the tests that led to it. Assumes nothing.
+-- `writing::lent_wrong` meets its contract: each answer follows from the tests that led to it, whose places are named `first`
+-- to `third`. Assumes nothing.
 use Rattle.plan_writer.proofs.LentTables.{lengths-last}
 use borrow.Author.Tests.{le-leb, lt-leb, ne-eqb}
 use Rattle.meaning.specs.Plan.{countsAllowed}
@@ -21,13 +22,23 @@ returns-3 c = simp (le-leb _ _ (c .before .before .if1 .left), le-leb _ _ (c .be
 returns-4 : tie.Need-returns-4
 unfolding lengthsWrong countsAllowed
 returns-4 c =
-    simp
-    (le-leb _ _ (c .before .before .before .if1 .left), le-leb _ _ (c .before .before .if2 .left), le-leb _ _ (c .before .if3 .left), ne-eqb _ _ (c .if4 .taken))
+    let third = c .before in
+    let second = third .before in
+    let first = second .before in
+    simp (
+      le-leb _ _ (first .if1 .left),
+      le-leb _ _ (second .if2 .left),
+      le-leb _ _ (third .if3 .left),
+      ne-eqb _ _ (c .if4 .taken),
+    )
 
 returns-5 : tie.Need-returns-5
 returns-5 c =
-    let a = c .before .before .before .before .args in
-    lengths-last (a .factors) (a .connections) (a .arrivals) (c .before .before .before .if1 .left) (c .before .before .if2 .left) (c .before .if3 .left) (c .if4 .left)
+    let third = c .before in
+    let second = third .before in
+    let first = second .before in
+    let a = first .before .args in
+    lengths-last (a .factors) (a .connections) (a .arrivals) (first .if1 .left) (second .if2 .left) (third .if3 .left) (c .if4 .left)
 
 pub lent-wrong-spec : {M : Type 1} → statement M
 lent-wrong-spec = tie.close (tie.spec returns returns-2 returns-3 returns-4 returns-5)

@@ -1,4 +1,5 @@
--- `writing::put_plan` meets its contract: the last word of the header brings the sum to 0, and the four writes put the words of the plan. Assumes nothing.
+-- `writing::put_plan` meets its contract: the last word of the header brings the sum to 0, and the four writes put the words
+-- of the plan. Assumes nothing.
 use Rattle.plan_writer.proofs.LentTables.{words-put, bytes-put}
 use native.Mathlib.Omega.{arith}
 use borrow.Author.Needs.{needs}
@@ -82,14 +83,18 @@ same-length c = search needs
 
 returns : tie.Need-returns
 returns c =
-    let h = c .before .before .before .before .before .before .before .before .before .before .before .before .before .before .before in
-    let s = h .before .before .before .before .before .before .before .before .before .before .before .before in
+    let fourth = c .before .before in
+    let third = fourth .before .before .before .before in
+    let second = third .before .before .before .before in
+    let first = second .before .before .before .before in
+    let solved = first .before .before .before in
+    let sum = solved .before in
+    let s = sum .before .before .before .before .before .before .before .before .before in
     let a = s .args in
     let f = a .factors .now in
     let k = a .connections .now in
     let n = a .arrivals .now in
-    let last = h .before .before .wrapping-sub-u32 in
-    let sum = h .before .before .before in
+    let last = solved .wrapping-sub-u32 in
     let words =
     words-put (a .interval) (a .cycle) f k n (s .pre .0)
     (sum .before .before .before .add-words .result)
@@ -104,16 +109,16 @@ returns c =
     (omega arith)
     (last .ensures) in
     bytes-put (a .interval) (a .cycle) f k n (s .pre .0) (a .buf .now)
-    (c .before .before .before .before .before .before .before .before .before .before .before .before .before .before .put-words .last .0)
-    (c .before .before .before .before .before .before .before .before .before .before .put-words2 .last .0)
-    (c .before .before .before .before .before .before .put-words3 .last .0)
-    (c .before .before .put-words4 .last .0)
+    (first .put-words .last .0)
+    (second .put-words2 .last .0)
+    (third .put-words3 .last .0)
+    (fourth .put-words4 .last .0)
     (last .result)
     (s .pre .1)
-    (c .before .before .before .before .before .before .before .before .before .before .before .before .before .before .put-words .ensures)
-    (c .before .before .before .before .before .before .before .before .before .before .put-words2 .ensures)
-    (c .before .before .before .before .before .before .put-words3 .ensures)
-    (c .before .before .put-words4 .ensures)
+    (first .put-words .ensures)
+    (second .put-words2 .ensures)
+    (third .put-words3 .ensures)
+    (fourth .put-words4 .ensures)
     words
 
 pub put-plan-spec : {M : Type 1} → statement M

@@ -12,7 +12,9 @@ use Rattle.plan_writer.proofs.writing.slots_wrong.Statement.{statement}
 use Rattle.plan_writer.proofs.writing.slots_wrong.Tie as tie
 
 abbrev Inv-loop : tie.InvT-loop
-Inv-loop arrivals count low₀ i₀ low i = (i ≤ count) × (count ≡ length arrivals / 3) × (slotsGoodFrom low (drop i (arrivalsOfWords arrivals)) ≡ slotsGoodFrom 0 (arrivalsOfWords arrivals))
+Inv-loop arrivals count low₀ i₀ low i =
+    (i ≤ count) × (count ≡ length arrivals / 3) ×
+    (slotsGoodFrom low (drop i (arrivalsOfWords arrivals)) ≡ slotsGoodFrom 0 (arrivalsOfWords arrivals))
 
 abbrev μ-loop : tie.MeasureT-loop
 μ-loop arrivals count low₀ i₀ low i = count - i
@@ -45,7 +47,8 @@ returns-2 c =
     let ws = c .before .before .before .before .before .args .arrivals .now in
     let short : l .i < length (arrivalsOfWords ws) = rw length-table (omega arith) in
     let slot = slot-at ws (length ws / 3) (l .i) (omega arith) in
-    slots-answer (arrivalsOfWords ws) false (sym (l .inv .2) ∙ slots-exceed (arrivalsOfWords ws) (l .i) short (l .low) (omega (arith, slot)))
+    slots-answer (arrivalsOfWords ws) false
+    (sym (l .inv .2) ∙ slots-exceed (arrivalsOfWords ws) (l .i) short (l .low) (omega (arith, slot)))
 
 add-i : tie.Need-add-i Inv-loop μ-loop
 add-i c = omega arith

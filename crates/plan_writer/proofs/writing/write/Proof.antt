@@ -1,4 +1,5 @@
--- `writing::write` meets its contract: each answer and its buffer follow from the tests that led to them, in document 01's order. Assumes nothing.
+-- `writing::write` meets its contract: each answer and its buffer follow from the tests that led to them, in document 01's order.
+-- Assumes nothing.
 use mathlib.Core.Path.{sym, _∙_}
 use native.Mathlib.Omega.{arith}
 use Rattle.meaning.specs.Plan.{lentWrong, lentPlan}
