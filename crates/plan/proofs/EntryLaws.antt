@@ -6,7 +6,6 @@ use native.Mathlib.Omega.{arith}
 use native.Mathlib.Nat.{mul-suc, mul-zero}
 use lib.ListN.{getD, drop}
 use Rattle.meaning.specs.Plan.{table, factorAt, connectionAt, arrivalAt}
-use Rattle.meaning.specs.Numbers
 
 -- An entry that depends on its own words alone.
 abbrev pub Local : {A : Type 0} → (List ℕ → ℕ → A) → ℕ → Type 0

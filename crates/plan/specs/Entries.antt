@@ -6,7 +6,6 @@ use native.Mathlib.Omega.{arith}
 use native.Mathlib.Nat.{not-suc-le-zero, mul-suc}
 use lib.ListN.{length, getD, take}
 use Rattle.meaning.specs.Plan.{table}
-use Rattle.meaning.specs.Numbers
 
 module _ {A : Type 0} (entry : List ℕ → ℕ → A) (width : ℕ) where
   -- A table has as many entries as it is read with.

@@ -5,7 +5,7 @@ use mathlib.Core.List.{List, [], _∷_, _++_, flatten, append-assoc, append-nil}
 use native.Mathlib.Omega.{arith}
 use native.Mathlib.Nat.{add-zero}
 use native.Mathlib.Numerals.{add-one, towards-suc}
-use lib.ListN.{length, getD, take, drop, set, length-append, length-take, length-drop, take-append-drop}
+use lib.ListN.{length, getD, take, drop, set, length-append, length-take, take-append-drop}
 use lib.Seq.{take-suc, drop-append-add, take-at, drop-drop, length-take-le, sets-eq}
 use Rattle.meaning.specs.Plan.{bytesOfWord}
 use Rattle.plan_writer.specs.Bytes.{bytesOfWords, pasted}
@@ -37,11 +37,6 @@ bytes-one w = append-nil (bytesOfWord w)
 pub paste-none : (buf : List ℕ) (at : ℕ) → pasted buf at [] ≡ buf
 unfolding pasted
 paste-none buf at = rw add-zero (take-append-drop at buf)
-
--- A buffer with bytes put into it is as long as it was.
-pub length-pasted : (buf : List ℕ) (at : ℕ) (xs : List ℕ) → at + length xs ≤ length buf → length (pasted buf at xs) ≡ length buf
-unfolding pasted
-length-pasted buf at xs h = simp (length-append, length-take, length-drop) (omega arith)
 
 -- What is put behind what was put is put in one.
 pub paste-more :

@@ -12,7 +12,6 @@ use Rattle.laws.specs.Sums.{sumOf}
 use Rattle.meaning.specs.declared.PlanRead.{PlanRead}
 use Rattle.meaning.specs.Plan.{Plan, wordsOf, headerOf, contentsOf, table, factorAt, connectionAt, arrivalAt, connectionWords, arrivalWords}
 use Rattle.meaning.specs.Plan.{tableWords, headerWords, sumWord, sumWords, planWords, planBytes, sizeOf, sizeWrong, readingAnswer}
-use Rattle.meaning.specs.Numbers
 use Rattle.plan_writer.specs.Bytes.{bytesOfWords}
 use Rattle.plan.proofs.EntryLaws.{table-same, connection-local, arrival-local}
 use Rattle.plan_writer.proofs.TableWords.{factors-back}

@@ -8,7 +8,6 @@ use native.Mathlib.Numerals.{add-one, towards-suc}
 use lib.ListN.{length, getD, take, drop}
 use lib.Seq.{drop-cons, drop-drop, take-add}
 use Rattle.meaning.specs.Plan.{table, factorAt, connectionAt, arrivalAt, connectionWords, arrivalWords}
-use Rattle.meaning.specs.Numbers
 
 module _ {A : Type 0} (entry : List ℕ → ℕ → A) (width : ℕ) where
   -- The words of a table's entries, one after another, are the words that the table was read from.

@@ -5,7 +5,6 @@ use mathlib.Core.Bool.{false}
 use mathlib.Core.List.{map, flatten}
 use lib.ListN.{length, getD}
 use Rattle.meaning.specs.Plan.{Plan, connectionWords, arrivalWords, tableWords, sizeOf, slotsWrong, Lent, lentPlan, lentWrong}
-use Rattle.meaning.specs.Numbers
 
 -- Contents that fit a plan file: counts that are allowed, slots that never fall nor exceed the largest, and numbers of 32 bits.
 pub record Writable (plan : Plan) : Type 0 where
