@@ -17,20 +17,27 @@ use Rattle.plan.specs.Readable.{Layout}
 pub both : (a b : Bool) → (a && b) ≡ true → (a ≡ true) × (b ≡ true)
 both a b e = and-eq-true-iff a b .0 e
 
+-- Counts that are allowed are at most 8, 32 and 4,096.
+pub counts-few : (f c a : ℕ) → countsAllowed f c a ≡ true → (f ≤ 8) × (c ≤ 32) × (a ≤ 4096)
+unfolding countsAllowed
+counts-few f c a e =
+    let p = both _ _ e in
+    let q = both _ _ (p .0) in
+    (leb-true _ _ (q .0), leb-true _ _ (q .1), leb-true _ _ (p .1))
+
 -- What passes the test of the layout is laid out right, count by count and offset by offset.
 pub layout-facts : (size : ℕ) (h : Header) → layoutWrong size h ≡ false → Layout size h
-unfolding layoutWrong countsAllowed
+unfolding layoutWrong
 layout-facts size h e =
     let p = both _ _ (not-false _ e) in
     let q = both _ _ (p .0) in
     let r = both _ _ (q .0) in
     let s = both _ _ (r .0) in
-    let t = both _ _ (s .0) in
-    let u = both _ _ (t .0) in
+    let few = counts-few _ _ _ (s .0) in
     record {
-      classes-few = leb-true _ _ (u .0);
-      connections-few = leb-true _ _ (u .1);
-      arrivals-few = leb-true _ _ (t .1);
+      classes-few = few .0;
+      connections-few = few .1;
+      arrivals-few = few .2;
       classes-at = eqb-true _ _ (s .1);
       connections-at = eqb-true _ _ (r .1);
       arrivals-at = eqb-true _ _ (q .1);

@@ -1,10 +1,11 @@
 -- Answers that satisfy one promise are the same, for each public function.
 use Prim.Native.Nat.{ℕ}
 use mathlib.Core.Path.{_≡_, sym, _∙_}
+use mathlib.Core.Bool.{Bool}
 use mathlib.Core.List.{List}
 use Rattle.meaning.specs.declared.Table.{Table}
 use Rattle.meaning.specs.declared.PlanRead.{PlanRead}
-use Rattle.meaning.specs.Plan.{wordsOf, factorAt, connectionAt, arrivalAt, readingAnswer}
+use Rattle.meaning.specs.Plan.{countsAllowed, wordsOf, factorAt, connectionAt, arrivalAt, readingAnswer}
 use Rattle.meaning.specs.declared.Connection.{Connection}
 use Rattle.meaning.specs.declared.Arrival.{Arrival}
 use Rattle.plan.specs.Parts.{partOf, arrivalsIn, boundary, stretchOf}
@@ -16,6 +17,12 @@ one p q = p ∙ sym q
 -- Two answers of `read` on the same bytes are the same.
 pub read-settled : (bytes : List ℕ) (r s : PlanRead) → r ≡ readingAnswer bytes → s ≡ readingAnswer bytes → r ≡ s
 read-settled bytes r s = one
+
+-- Two answers of `counts_allowed` are the same.
+pub counts-settled :
+    (classes connections arrivals : ℕ) (r s : Bool) → r ≡ countsAllowed classes connections arrivals →
+    s ≡ countsAllowed classes connections arrivals → r ≡ s
+counts-settled classes connections arrivals r s = one
 
 -- Two answers of `classes`, of `connections` or of `arrivals` are the same.
 pub part-settled : (bytes : List ℕ) (t : Table) (width : ℕ) (r s : List ℕ) → r ≡ partOf bytes t width → s ≡ partOf bytes t width → r ≡ s

@@ -1,17 +1,17 @@
 -- The plan of lent tables: its size, its words, and the writes that put its bytes.
 use Prim.Native.Nat.{ℕ, _+_, _*_, _/_, _%_, _^_, _≤_, _<_}
 use mathlib.Core.Path.{_≡_, refl, ap, _∙_}
-use mathlib.Core.Bool.{false, not}
+use mathlib.Core.Bool.{true, false, not}
 use mathlib.Core.List.{List, [], _∷_, _++_}
 use native.Mathlib.Omega.{arith}
 use lib.ListN.{length, take}
 use lib.Seq.{take-all}
 use lib.Dec.{eqb}
-use borrow.Author.Tests.{leb-true, eqb-true, not-false, le-leb, eq-eqb}
+use borrow.Author.Tests.{eqb-true, not-false, le-leb, eq-eqb}
 use Rattle.laws.specs.Sums.{sumOf}
 use Rattle.meaning.specs.Plan.{lentPlan, countsAllowed, sizeOf, headerWords, tableWords, sumWord, sumWords, planWords, planBytes}
 use Rattle.meaning.specs.Plan.{connectionAt, arrivalAt}
-use Rattle.plan.proofs.LaidOut.{both}
+use Rattle.plan.proofs.LaidOut.{both, counts-few}
 use Rattle.plan.specs.Entries.{length-table}
 use Rattle.plan_writer.proofs.TableWords.{connections-back, arrivals-back}
 use Rattle.plan_writer.specs.Bytes.{bytesOfWords, pasted}
@@ -21,16 +21,15 @@ use Rattle.plan_writer.proofs.SumWord.{solved}
 
 -- Lengths that pass the test are right, count by count.
 pub lengths-facts : (f c a : ℕ) → lengthsWrong f c a ≡ false → Lengths f c a
-unfolding lengthsWrong countsAllowed
+unfolding lengthsWrong
 lengths-facts f c a e =
     let p = both _ _ (not-false _ e) in
     let q = both _ _ (p .0) in
-    let r = both _ _ (q .0) in
-    let s = both _ _ (r .0) in
+    let few = counts-few _ _ _ (q .0) in
     record {
-      factors-few = leb-true _ _ (s .0);
-      connections-few = leb-true _ _ (s .1);
-      arrivals-few = leb-true _ _ (r .1);
+      factors-few = few .0;
+      connections-few = few .1;
+      arrivals-few = few .2;
       connections-whole = eqb-true _ _ (q .1);
       arrivals-whole = eqb-true _ _ (p .1);
     }
@@ -49,9 +48,9 @@ lengths-right f c a l =
 
 -- Where all else is right, the last test decides.
 pub lengths-last :
-    (f c a : ℕ) → f ≤ 8 → c / 4 ≤ 32 → a / 3 ≤ 4096 → c % 4 ≡ 0 → not (eqb (a % 3) 0) ≡ lengthsWrong f c a
-unfolding lengthsWrong countsAllowed
-lengths-last f c a p q r s = rw (le-leb _ _ p, le-leb _ _ q, le-leb _ _ r, eq-eqb _ _ s)
+    (f c a : ℕ) → countsAllowed f (c / 4) (a / 3) ≡ true → c % 4 ≡ 0 → not (eqb (a % 3) 0) ≡ lengthsWrong f c a
+unfolding lengthsWrong
+lengths-last f c a p q = rw (p, eq-eqb _ _ q)
 
 module _ (interval cycle : ℕ) (factors connections arrivals : List ℕ)
     (whole : Lengths (length factors) (length connections) (length arrivals)) where

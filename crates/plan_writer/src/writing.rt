@@ -8,18 +8,13 @@ ghost use Rattle.plan_writer.specs.Bytes.{pasted};
 use super::words::add_words;
 use super::words::put_words;
 use meaning::PlanWritten;
+use plan::reading::counts_allowed;
 
 // Counts that are too large, or tables that are not whole entries.
 fn lent_wrong(factors: usize, connections: usize, arrivals: usize) -> bool
     ensures { λ r. ⌜ r ≡ lengthsWrong factors connections arrivals ⌝ }
 {
-    if factors > 8 {
-        return true;
-    }
-    if connections / 4 > 32 {
-        return true;
-    }
-    if arrivals / 3 > 4096 {
+    if !counts_allowed(factors, connections / 4, arrivals / 3) {
         return true;
     }
     if connections % 4 != 0 {
