@@ -1,5 +1,5 @@
--- `reading::layout_wrong` meets its contract: each answer follows from the tests that led to it, whose places are named `counts` (of the counts),
--- `first`, `second` and `third` (of the offsets). Assumes nothing.
+-- `reading::layout_wrong` meets its contract: each answer follows from the tests that led to it, whose places are named `counts` (of the
+-- counts), `first`, `second` and `third` (of the offsets). Assumes nothing.
 use mathlib.Core.Path.{sym, _∙_}
 use native.Mathlib.Omega.{arith}
 use borrow.Author.Tests.{eq-eqb, ne-eqb, not-true, not-false}
