@@ -6,9 +6,8 @@ use mathlib.Core.Path.{_≡_}
 use lib.ListN.{length, drop}
 use lib.Dec.{eqb}
 use Rattle.meaning.specs.declared.PlanWritten.{PlanWritten}
-use Rattle.meaning.specs.Plan.{Lent, lentPlan, countsAllowed, planBytes, writingAnswer}
 use Rattle.meaning.specs.declared.Arrival.{Arrival}
-use Rattle.meaning.specs.Plan
+use Rattle.meaning.specs.Plan.{Lent, lentPlan, countsAllowed, table, arrivalAt, planBytes, writingAnswer}
 
 -- The arguments of the writer as one thing.
 abbrev pub lent : ℕ → ℕ → List ℕ → List ℕ → List ℕ → Lent
@@ -48,7 +47,7 @@ headerStart interval cycle factors connections arrivals =
 
 -- The arrivals of a table of words: three words each.
 unfoldable pub arrivalsOfWords : List ℕ → List Arrival
-arrivalsOfWords ws = Plan.table Plan.arrivalAt 3 ws 0 (length ws / 3)
+arrivalsOfWords ws = table arrivalAt 3 ws 0 (length ws / 3)
 
 -- The buffer after an answer: the bytes of the plan and then what stood behind them, or all as it was.
 unfoldable pub bytesBy : PlanWritten → Lent → List ℕ → List ℕ
