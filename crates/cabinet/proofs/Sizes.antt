@@ -10,10 +10,10 @@ use Rattle.meaning.specs.declared.PlanRead.{PlanRead}
 use Rattle.meaning.specs.declared.PlanWritten.{PlanWritten}
 use Rattle.meaning.specs.Answers.{planRead, planWritten, refusal}
 use Rattle.meaning.specs.Plan.{Lent, lentWrong, readingAnswer, writingAnswer}
-use Rattle.plan.specs.Good.{read-facts}
-use Rattle.plan.specs.Calls.{write-facts}
-use Rattle.plan.specs.Written.{lengthsWrong}
-use Rattle.plan.specs.Writing.{lengths-facts, size-of-lent}
+use Rattle.plan.proofs.Good.{read-facts}
+use Rattle.plan_writer.proofs.Calls.{write-facts}
+use Rattle.plan_writer.specs.Written.{lengthsWrong}
+use Rattle.plan_writer.proofs.LentTables.{lengths-facts, size-of-lent}
 use Rattle.meaning.specs.Lines.{runText, textMost}
 use Rattle.meaning.proofs.RunFits.{run-fits}
 use Rattle.whole_run.specs.declared.running.Printed.{Printed}

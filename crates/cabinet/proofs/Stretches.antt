@@ -8,7 +8,8 @@ use lib.ListN.{length, take, drop, length-take}
 use lib.Seq.{take-take, take-length}
 use borrow.Author.Tests.{eq-eqb, ne-eqb}
 use Rattle.plan.specs.Parts.{arrivalsIn, boundary, stretchStart, stretchEnd, stretchOf}
-use Rattle.plan.specs.Stretch.{boundary-within, length-stretch, stretch-past}
+use Rattle.plan.specs.StretchPlaces.{boundary-within, length-stretch}
+use Rattle.plan.proofs.Stretch.{stretch-past}
 use Rattle.cabinet.specs.Places.{stretchFirst, stretchSize}
 
 module _ (bytes : List ℕ) (from slot : ℕ) where

@@ -12,7 +12,7 @@ use Rattle.words.specs.Places.{boxWords}
 use Rattle.tables.specs.Opening
 use Rattle.words.specs.Sound.{soundWords}
 use Rattle.multiplexer.specs.Promised.{admission, wordsAdmitted, offering, wordsOffered, stepping, wordsStepped}
-use Rattle.plan.specs.Written.{bytesAfter}
+use Rattle.plan_writer.specs.Written.{bytesAfter}
 use Rattle.whole_run.specs.Printing.{printed, printingAnswer, textAfter}
 use Rattle.cabinet.specs.Told.{Told, success}
 use Rattle.cabinet.specs.Places.{stretchFirst, stretchSize}

@@ -7,8 +7,8 @@ use plan::tables::connection;
 use plan::tables::factor;
 use plan::tables::first_from;
 use plan::tables::stretch;
-use plan::writing::write;
-ghost use Rattle.plan.specs.Written.{lent};
+use plan_writer::writing::write;
+ghost use Rattle.plan_writer.specs.Written.{lent};
 ghost use Rattle.cabinet.specs.Promises.{ReadPromise, FactorPromise, ConnectionPromise, ArrivalPromise, StretchPromise, WritePromise};
 
 // Reads the header of a plan once the whole plan is tested: 0, 13, 14, 15 or 16.

@@ -12,8 +12,9 @@ pub record Least (test : ℕ → Bool) (t u : ℕ) : Type 0 where
   pub fails : test u ≡ false
   pub below : (k : ℕ) → t ≤ k → k < u → test k ≡ true
 
--- the same, for a search from t on
-search-fails : (test : ℕ → Bool) (n t : ℕ) (b : Bool) → test t ≡ b → (u : ℕ) → searchFrom test n t b ≡ failsAt u → (u < t + n) × Least test t u
+-- A search from t on that stops has found the least number, from t on, that fails.
+search-fails :
+    (test : ℕ → Bool) (n t : ℕ) (b : Bool) → test t ≡ b → (u : ℕ) → searchFrom test n t b ≡ failsAt u → (u < t + n) × Least test t u
 unfolding searchFrom
 search-fails test zero t b e u q = absurd (let z : _≡_ {A = ℕ} 0 1 = cc in omega arith)
 search-fails test (suc n) t false e u q =
@@ -30,8 +31,9 @@ search-fails test (suc n) t true e u q =
       },
     )
 
--- the same, for a search from t on
-search-holds : (test : ℕ → Bool) (n t : ℕ) (b : Bool) → test t ≡ b → searchFrom test n t b ≡ holds → (k : ℕ) → t ≤ k → k < t + n → test k ≡ true
+-- A search from t on that does not stop has found no number that fails.
+search-holds :
+    (test : ℕ → Bool) (n t : ℕ) (b : Bool) → test t ≡ b → searchFrom test n t b ≡ holds → (k : ℕ) → t ≤ k → k < t + n → test k ≡ true
 unfolding searchFrom
 search-holds test zero t b e q k h l = absurd (omega arith)
 search-holds test (suc n) t false e q k h l = absurd (let z : _≡_ {A = ℕ} 0 1 = cc in omega arith)

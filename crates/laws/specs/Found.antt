@@ -5,8 +5,9 @@ use mathlib.Core.Bool.{Bool, true, false, true≢false}
 use native.Mathlib.Decide.{decLt}
 use native.Mathlib.Omega.{arith}
 use Rattle.laws.specs.Search.{Search, failsAt, holds, firstFailing}
-use Rattle.laws.specs.Finding.{Least, first-failing-fails, first-failing-holds}
+use Rattle.laws.specs.Finding.{first-failing-fails, first-failing-holds}
 
+-- Where the test holds below t and fails at t, the search answers t.
 pub found-fails : (test : ℕ → Bool) (n t : ℕ) → t < n → ((k : ℕ) → k < t → test k ≡ true) → test t ≡ false → firstFailing test n ≡ failsAt t
 found-fails test n t h below fails = go (firstFailing test n) refl
   where
@@ -23,6 +24,7 @@ found-fails test n t h below fails = go (firstFailing test n) refl
               ]
         ]
 
+-- Where the test holds over the range, the search answers so.
 pub found-holds : (test : ℕ → Bool) (n : ℕ) → ((k : ℕ) → k < n → test k ≡ true) → firstFailing test n ≡ holds
 found-holds test n below = go (firstFailing test n) refl
   where

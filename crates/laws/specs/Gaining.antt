@@ -6,7 +6,7 @@ use native.Mathlib.Decide.{decLt}
 use native.Mathlib.Omega.{arith}
 
 module _ (S : ℕ → ℕ) (from M g : ℕ) (repeats : (t : ℕ) → from ≤ t → S (t + M) ≡ S t + g) where
-  -- k cycles later it has gained k times
+  -- After k cycles the function has gained k times.
   after-cycles : (k : ℕ) → S (from + k * M) ≡ S from + k * g
   after-cycles zero =
       let e : from + zero * M ≡ from = omega arith in
@@ -19,7 +19,7 @@ module _ (S : ℕ → ℕ) (from M g : ℕ) (repeats : (t : ℕ) → from ≤ t 
       let r : S (from + k * M + M) ≡ S from + suc k * g = omega arith in
       ap S e ∙ r
 
-  -- the slots below n, one after another
+  -- If it gains at most M, the slots below from + M decide for the slots below n.
   up-to : g ≤ M → 1 ≤ M → ((t : ℕ) → t < from + M → S t ≤ t) → (n t : ℕ) → t < n → S t ≤ t
   up-to h m base zero t l = absurd (omega arith)
   up-to h m base (suc n) t l =
@@ -33,11 +33,11 @@ module _ (S : ℕ → ℕ) (from M g : ℕ) (repeats : (t : ℕ) → from ≤ t 
             omega arith
       ]
 
-  -- if it gains at most M, the slots below from + M decide for all
+  -- If it gains at most M, the slots below from + M decide for all slots.
   pub all-follow : g ≤ M → 1 ≤ M → ((t : ℕ) → t < from + M → S t ≤ t) → (t : ℕ) → S t ≤ t
   all-follow h m base t = up-to h m base (suc t) t (omega arith)
 
-  -- if it gains more, it passes the slot itself somewhere
+  -- If it gains more, it passes the slot itself somewhere.
   pub some-passes : M < g → (t : ℕ) × (t < S t)
   some-passes h =
       let e = after-cycles (suc from) in

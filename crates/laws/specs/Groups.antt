@@ -10,24 +10,24 @@ use borrow.Author.Tests.{eq-eqb, ne-eqb}
 use Rattle.laws.specs.Sums.{sumOf}
 use Rattle.laws.specs.SumLaws.{given, given-true, given-false}
 
--- the sum of g over k numbers from n on
+-- The sum of g over k numbers from n on.
 unfoldable pub across : (ℕ → ℕ) → ℕ → ℕ → ℕ
 across g n zero = 0
 across g n (suc k) = g n + across g (suc n) k
 
--- sums of two add up
+-- The sum of two functions is the two sums added.
 across-add : (g h : ℕ → ℕ) (n k : ℕ) → across (λ j. g j + h j) n k ≡ across g n k + across h n k
 unfolding across
 across-add g h n zero = refl
 across-add g h n (suc k) = let i = across-add g h (suc n) k in omega arith
 
--- a sum of nothing
+-- A sum of zeros is 0.
 across-zero : (n k : ℕ) → across (λ j. 0) n k ≡ 0
 unfolding across
 across-zero n zero = refl
 across-zero n (suc k) = let i = across-zero (suc n) k in omega arith
 
--- a number below the range is not met in it
+-- A number below the range is not met in it.
 across-none : (at m n k : ℕ) → at < n → across (λ j. given (eqb at j) m) n k ≡ 0
 unfolding across
 across-none at m n zero h = refl
@@ -36,7 +36,7 @@ across-none at m n (suc k) h =
     let i = across-none at m (suc n) k (omega arith) in
     omega arith
 
--- a number of the range is met once
+-- A number of the range is met once.
 across-one : (at m n k : ℕ) → n ≤ at → at < n + k → across (λ j. given (eqb at j) m) n k ≡ m
 unfolding across
 across-one at m n zero h l = absurd (omega arith)
@@ -46,11 +46,11 @@ across-one at m n (suc k) h l =
       | no o ↦ (let e = given-true m (eq-eqb at n (omega arith)) in let i = across-none at m (suc n) k (omega arith) in omega arith)
     ]
 
--- the part of the sum of f that group j has; `group` numbers the elements
+-- The part of the sum of f that group j has; `group` numbers the elements.
 unfoldable pub partOf : {A : Type 0} → (A → ℕ) → (A → ℕ) → List A → ℕ → ℕ
 partOf group f l j = sumOf (λ a. given (eqb (group a) j) (f a)) l
 
--- the sum is the sum of the parts
+-- The sum is the sum of the parts.
 pub sum-groups : {A : Type 0} (group f : A → ℕ) (l : List A) (n k : ℕ) → ((a : A) → List·Memᴰ a l → (n ≤ group a) × (group a < n + k)) →
     sumOf f l ≡ across (partOf group f l) n k
 unfolding sumOf partOf
@@ -62,7 +62,7 @@ sum-groups group f (a ∷ l) n k h =
     let s = across-add (λ j. given (eqb (group a) j) (f a)) (λ j. sumOf (λ a. given (eqb (group a) j) (f a)) l) n k in
     omega arith
 
--- groups that are each at most what a list gives for their number sum up to at most its sum
+-- Groups that are each at most what a list gives for their number sum up to at most its sum.
 pub across-below : {A : Type 0} (g : ℕ → ℕ) (f : A → ℕ) (l : List A) (d : A) (n : ℕ) →
     ((i : ℕ) → i < length l → g (n + i) ≤ f (getD l i d)) → across g n (length l) ≤ sumOf f l
 unfolding across sumOf
@@ -74,8 +74,9 @@ across-below g f (a ∷ l) d n h =
     let i = across-below g f l d (suc n) (λ i b. let e : n + suc i ≡ suc n + i = omega arith in rw e at (h (suc i) (omega arith))) in
     omega arith
 
--- and if one of them leaves m to spare, so does the sum
-pub across-spare : {A : Type 0} (g : ℕ → ℕ) (f : A → ℕ) (l : List A) (d : A) (n m at : ℕ) → at < length l → g (n + at) + m ≤ f (getD l at d) →
+-- If one of the groups leaves m to spare, so does the sum.
+pub across-spare : {A : Type 0} (g : ℕ → ℕ) (f : A → ℕ) (l : List A) (d : A) (n m at : ℕ) →
+    at < length l → g (n + at) + m ≤ f (getD l at d) →
     ((i : ℕ) → i < length l → g (n + i) ≤ f (getD l i d)) → across g n (length l) + m ≤ sumOf f l
 unfolding across sumOf
 across-spare g f [] d n m at b s h = absurd (omega arith)

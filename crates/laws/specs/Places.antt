@@ -9,12 +9,12 @@ use lib.Dec.{eqb}
 use lib.ListN.{length, getD, set}
 use borrow.Author.Tests.{eq-eqb, ne-eqb}
 
--- the element that was put at the end
+-- The element that was put at the end is read there.
 pub last-at : {A : Type 0} (l : List A) (a d : A) → getD (l ++ (a ∷ [])) (length l) d ≡ a
 last-at [] a d = refl
 last-at (x ∷ l) a d = last-at l a d
 
--- with one put at the end, its place has it and the others are as before
+-- With one put at the end, its place has it and the others are as before.
 pub getD-last : {A : Type 0} (l : List A) (a d : A) (i : ℕ) → getD (l ++ (a ∷ [])) i d ≡ cond (eqb i (length l)) a (getD l i d)
 getD-last [] a d zero = refl
 getD-last [] a d (suc i) = rw (ne-eqb (suc i) 0 (λ e. omega arith))
@@ -30,7 +30,7 @@ getD-last (x ∷ l) a d (suc i) =
           | no e ↦ ne-eqb (suc i) (suc j) (λ q. e (omega arith)) ∙ sym (ne-eqb i j e)
         ]
 
--- setting goes with mapping
+-- A function of every element, with one set, is the one set in what the function gives.
 pub map-set : {A B : Type 0} (f : A → B) (l : List A) (i : ℕ) (a : A) → map f (set l i a) ≡ set (map f l) i (f a)
 map-set f [] i a = refl
 map-set f (x ∷ l) zero a = refl

@@ -6,23 +6,23 @@ use mathlib.Core.List.{List, [], _∷_, _++_, List·Memᴰ, List·Memᴰ·head, 
 use native.Mathlib.Omega.{arith}
 use Rattle.laws.specs.Sums.{sumOf, largestOf}
 
--- the number where the test passes, else 0
+-- The number where the test passes, else 0.
 unfoldable pub given : Bool → ℕ → ℕ
 given true n = n
 given false n = 0
 
--- where it passes
+-- Where the test passes, the number is given.
 pub given-true : {b : Bool} (n : ℕ) → b ≡ true → given b n ≡ n
 unfolding given
 given-true n e = rw e
 
--- where it fails
+-- Where the test fails, 0 is given.
 pub given-false : {b : Bool} (n : ℕ) → b ≡ false → given b n ≡ 0
 unfolding given
 given-false n e = rw e
 
 module _ {A : Type 0} where
-  -- equal parts, equal sums
+  -- Equal parts have equal sums.
   pub sum-same : (f g : A → ℕ) (l : List A) → ((a : A) → List·Memᴰ a l → f a ≡ g a) → sumOf f l ≡ sumOf g l
   unfolding sumOf
   sum-same f g [] h = refl
@@ -31,7 +31,7 @@ module _ {A : Type 0} where
       let y = sum-same f g l (λ b m. h b (List·Memᴰ·tail m)) in
       omega arith
 
-  -- smaller parts, a smaller sum
+  -- Smaller parts have a smaller sum.
   pub sum-mono : (f g : A → ℕ) (l : List A) → ((a : A) → List·Memᴰ a l → f a ≤ g a) → sumOf f l ≤ sumOf g l
   unfolding sumOf
   sum-mono f g [] h = omega arith
@@ -40,18 +40,18 @@ module _ {A : Type 0} where
       let y = sum-mono f g l (λ b m. h b (List·Memᴰ·tail m)) in
       omega arith
 
-  -- a list of one
+  -- The sum over a list of one is its part.
   pub sum-one : (f : A → ℕ) (a : A) → sumOf f (a ∷ []) ≡ f a
   unfolding sumOf
   sum-one f a = omega arith
 
-  -- a member's part is at most the sum
+  -- A member's part is at most the sum.
   pub sum-member : (f : A → ℕ) (l : List A) {a : A} → List·Memᴰ a l → f a ≤ sumOf f l
   unfolding sumOf
   sum-member f (x ∷ l) {a} (List·Memᴰ·head e) = let y : f a ≡ f x = ap f e in omega arith
   sum-member f (x ∷ l) (List·Memᴰ·tail m) = let y = sum-member f l m in omega arith
 
-  -- what is counted at all is found
+  -- What is counted at all is found.
   pub sum-found : (test : A → Bool) (l : List A) → 1 ≤ sumOf (λ a. given (test a) 1) l → (a : A) × List·Memᴰ a l × (test a ≡ true)
   unfolding sumOf
   sum-found test [] h = absurd (omega arith)
@@ -65,7 +65,7 @@ module _ {A : Type 0} where
       go rest true e = (a, List·Memᴰ·head refl, e)
       go rest false e = let r = rest (later e) in (r .0, List·Memᴰ·tail (r .1), r .2)
 
-  -- a sum of nothing
+  -- A sum of zeros is 0.
   pub sum-zero : (f : A → ℕ) (l : List A) → ((a : A) → List·Memᴰ a l → f a ≡ 0) → sumOf f l ≡ 0
   unfolding sumOf
   sum-zero f [] h = refl
@@ -74,19 +74,19 @@ module _ {A : Type 0} where
       let y = sum-zero f l (λ b m. h b (List·Memᴰ·tail m)) in
       omega arith
 
-  -- a member's value is at most the largest
+  -- A member's value is at most the largest.
   pub largest-member : (f : A → ℕ) (l : List A) {a : A} → List·Memᴰ a l → f a ≤ largestOf f l
   unfolding largestOf
   largest-member f (x ∷ l) {a} (List·Memᴰ·head e) = let y : f a ≡ f x = ap f e in omega arith
   largest-member f (x ∷ l) (List·Memᴰ·tail m) = let y = largest-member f l m in omega arith
 
-  -- putting one more in makes neither smaller
+  -- Putting one more in does not make the sum smaller.
   pub sum-put : (f : A → ℕ) (l : List A) (a : A) (m : List A) → sumOf f (l ++ m) ≤ sumOf f (l ++ (a ∷ m))
   unfolding sumOf
   sum-put f [] a m = omega arith
   sum-put f (x ∷ l) a m = let y = sum-put f l a m in omega arith
 
-  -- nor the largest
+  -- Putting one more in does not make the largest smaller.
   pub largest-put : (f : A → ℕ) (l : List A) (a : A) (m : List A) → largestOf f (l ++ m) ≤ largestOf f (l ++ (a ∷ m))
   unfolding largestOf
   largest-put f [] a m = omega arith

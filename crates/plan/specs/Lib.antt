@@ -1,23 +1,6 @@
--- What the contracts of this crate cite beside the definitions of `meaning`.
-pub mod Words
-pub mod Entries
-pub mod Bytes
+-- What the contracts of this crate cite beside the definitions of `meaning`, and the laws on them that stand on nothing else.
 pub mod Parts
-pub mod Steps
-pub mod Pasting
-pub mod Layout
-pub mod Reading
-pub mod Fitting
-pub mod Stretch
-pub mod Slots
-pub mod Good
-pub mod Refusals
-pub mod Sizes
-pub mod Back
-pub mod Written
-pub mod Writing
-pub mod RoundTrip
-pub mod Again
-pub mod Calls
-pub mod Walk
-pub mod Settled
+pub mod Readable
+pub mod FirstRefusal
+pub mod Entries
+pub mod StretchPlaces

@@ -5,8 +5,8 @@ use mathlib.Core.List.{List, [], _∷_}
 use lib.ListN.{length, getD, take, drop}
 use lib.Dec.{leb, ltb}
 use Rattle.meaning.specs.declared.Table.{Table}
-use Rattle.meaning.specs.Plan
 use Rattle.meaning.specs.declared.Arrival.{Arrival}
+use Rattle.meaning.specs.Plan
 
 -- The table that two words of a header tell, the count and then the offset.
 unfoldable pub tableOf : List ℕ → ℕ → Table
@@ -16,10 +16,6 @@ tableOf ws i = record { count = getD ws i 0; start = getD ws (i + 1) 0 }
 unfoldable pub partOf : List ℕ → Table → ℕ → List ℕ
 partOf bytes t width =
     cond (leb (t .start + width * t .count) (length bytes)) (take (width * t .count) (drop (t .start) bytes)) []
-
--- The arrivals of a table of words: three words each.
-unfoldable pub arrivalsOfWords : List ℕ → List Arrival
-arrivalsOfWords ws = Plan.table Plan.arrivalAt 3 ws 0 (length ws / 3)
 
 -- The arrivals of a table of bytes: twelve bytes each.
 unfoldable pub arrivalsIn : List ℕ → List Arrival
@@ -34,10 +30,11 @@ leading limit (a ∷ l) = cond (ltb (a .slot) limit) (suc (leading limit l)) 0
 unfoldable pub boundary : List Arrival → ℕ → ℕ → ℕ
 boundary l from limit = from + leading limit (drop from l)
 
--- Where the stretch of a slot starts and where it ends, in entries.
+-- Where the stretch of a slot starts, in entries.
 unfoldable pub stretchStart : List ℕ → ℕ → ℕ → ℕ
 stretchStart bytes from slot = boundary (arrivalsIn bytes) from slot
 
+-- Where the stretch of a slot ends, in entries.
 unfoldable pub stretchEnd : List ℕ → ℕ → ℕ → ℕ
 stretchEnd bytes from slot = boundary (arrivalsIn bytes) (stretchStart bytes from slot) (slot + 1)
 
@@ -45,3 +42,7 @@ stretchEnd bytes from slot = boundary (arrivalsIn bytes) (stretchStart bytes fro
 unfoldable pub stretchOf : List ℕ → ℕ → ℕ → List ℕ
 stretchOf bytes from slot =
     take (12 * (stretchEnd bytes from slot - stretchStart bytes from slot)) (drop (12 * stretchStart bytes from slot) bytes)
+
+-- Some arrival, for lists that are read past their end.
+abbrev pub noArrival : Arrival
+noArrival = record { slot = 0; place = 0; units = 0 }

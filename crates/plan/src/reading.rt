@@ -1,7 +1,7 @@
 // Reading a plan: 13, 14, 15 and 16 in that order, or what its header says.
 ghost use mathlib.Core.Path.{_≡_};
 ghost use Prim.Native.Nat.{_≤_};
-ghost use Rattle.meaning.specs.Plan.{readingAnswer, sizeWrong, layoutWrong, slotsWrong, headerOf, wordsOf};
+ghost use Rattle.meaning.specs.Plan.{readingAnswer, sizeWrong, countsAllowed, layoutWrong, slotsWrong, headerOf, wordsOf};
 ghost use Rattle.plan.specs.Parts.{arrivalsIn, tableOf};
 use super::words::number;
 use super::words::sum_of_bytes;
@@ -51,6 +51,19 @@ fn header(plan: &[u8]) -> Header
     }
 }
 
+// "Counts: at most 8, 32 and 4,096; zero is allowed in the file."
+pub fn counts_allowed(classes: usize, connections: usize, arrivals: usize) -> bool
+    ensures { λ r. ⌜ r ≡ countsAllowed classes connections arrivals ⌝ }
+{
+    if classes > 8 {
+        return false;
+    }
+    if connections > 32 {
+        return false;
+    }
+    arrivals <= 4096
+}
+
 // "plan counts or offsets are wrong". The counts are limited before they are multiplied.
 fn layout_wrong(size: usize, h: Header) -> bool
     ensures { λ r. ⌜ r ≡ layoutWrong size h ⌝ }
@@ -58,13 +71,7 @@ fn layout_wrong(size: usize, h: Header) -> bool
     let classes = h.classes;
     let connections = h.connections;
     let arrivals = h.arrivals;
-    if classes.count > 8 {
-        return true;
-    }
-    if connections.count > 32 {
-        return true;
-    }
-    if arrivals.count > 4096 {
+    if !counts_allowed(classes.count, connections.count, arrivals.count) {
         return true;
     }
     if classes.start != 40 {

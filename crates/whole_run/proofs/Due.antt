@@ -13,7 +13,7 @@ use Rattle.laws.specs.Lists.{Placed, keep, placedFrom}
 use Rattle.meaning.specs.declared.Arrival.{Arrival}
 use Rattle.meaning.specs.Plan.{neverFallingFrom, arrivalsOf}
 use Rattle.plan.specs.Parts.{leading}
-use Rattle.plan.specs.Slots.{slot-together}
+use Rattle.plan.proofs.Slots.{slot-together}
 
 -- The test of an arrival's slot, of arrivals with their places.
 abbrev before : ℕ → Placed Arrival → Bool

@@ -21,7 +21,7 @@ use Rattle.meaning.proofs.RestOfRun.{restOf, rest-ended, rest-goes-on, slot-fal
 use Rattle.words.specs.Contents.{contents}
 use Rattle.words.specs.Sound.{soundWords}
 use Rattle.plan.specs.Parts.{arrivalsIn, leading}
-use Rattle.plan.specs.Stretch.{walk-starts}
+use Rattle.plan.proofs.Stretch.{walk-starts}
 use Rattle.multiplexer.proofs.Sounds.{counter-most}
 use Rattle.lines.specs.Put.{Room, Put}
 use Rattle.whole_run.specs.declared.slots.Slot.{Slot}

@@ -24,9 +24,10 @@ use Rattle.words.specs.Changes.{Become}
 use Rattle.tables.specs.TableChanges.{withCounter}
 use Rattle.words.proofs.TestedSound.{sound-contents}
 use Rattle.plan.specs.Parts.{arrivalsIn, leading}
-use Rattle.plan.specs.Slots.{slot-together, leading-next}
-use Rattle.plan.specs.Steps.{noArrival}
-use Rattle.plan.specs.Stretch.{length-arrivalsIn, arrival-of-table}
+use Rattle.plan.proofs.Slots.{slot-together, leading-next}
+use Rattle.plan.specs.Parts.{noArrival}
+use Rattle.plan.specs.StretchPlaces.{length-arrivalsIn}
+use Rattle.plan.proofs.Stretch.{arrival-of-table}
 use Rattle.multiplexer.proofs.Sounds.{leaves}
 use Rattle.whole_run.specs.Parts.{arrivalsPlaced, Sorted, Walked, PassesIdle}
 use Rattle.whole_run.proofs.Due.{placed-due}

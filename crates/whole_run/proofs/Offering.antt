@@ -19,7 +19,7 @@ use Rattle.words.specs.Contents.{contents}
 use Rattle.words.specs.Sound.{soundWords}
 use Rattle.plan.specs.Parts.{arrivalsIn}
 use Rattle.plan.specs.Entries.{getD-table}
-use Rattle.plan.specs.Stretch.{length-arrivalsIn}
+use Rattle.plan.specs.StretchPlaces.{length-arrivalsIn}
 use Rattle.lines.specs.Put.{Room, Put}
 use Rattle.multiplexer.specs.Promised.{Leaves}
 use Rattle.whole_run.specs.Parts.{offersOf, Offers}

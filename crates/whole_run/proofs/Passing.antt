@@ -13,7 +13,7 @@ use Rattle.meaning.specs.Box.{Box, free, carries, waiting, onLink, packets}
 use Rattle.meaning.specs.Run.{finished}
 use Rattle.words.specs.Contents.{linkOf}
 use Rattle.plan.specs.Parts.{arrivalsIn}
-use Rattle.plan.specs.Stretch.{length-arrivalsIn}
+use Rattle.plan.specs.StretchPlaces.{length-arrivalsIn}
 use Rattle.whole_run.specs.Parts.{arrivalsPlaced, Walked}
 use Rattle.whole_run.proofs.Due.{all-before, one-not-before}
 

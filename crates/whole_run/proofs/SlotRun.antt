@@ -15,7 +15,8 @@ use Rattle.meaning.specs.Lines.{textOf}
 use Rattle.meaning.proofs.RestOfRun.{dueNow}
 use Rattle.words.specs.Contents.{contents}
 use Rattle.plan.specs.Parts.{arrivalsIn, leading, stretchOf}
-use Rattle.plan.specs.Stretch.{leading-within, length-arrivalsIn, stretch-holds, stretch-within, walk-on}
+use Rattle.plan.specs.StretchPlaces.{leading-within, length-arrivalsIn, stretch-within}
+use Rattle.plan.proofs.Stretch.{stretch-holds, walk-on}
 use Rattle.lines.specs.Put.{Room, Put}
 use Rattle.lines.proofs.Puts.{then, room-after, room-first}
 use Rattle.multiplexer.specs.Promised.{Leaves}

@@ -22,7 +22,8 @@ use Rattle.words.specs.Sound.{soundWords}
 use Rattle.tables.specs.Opening as openings
 use Rattle.tables.proofs.Opened.{opened-sound, opened-new}
 use Rattle.plan.specs.Parts.{partOf}
-use Rattle.plan.specs.Good.{Readable, read-back}
+use Rattle.plan.specs.Readable.{Readable}
+use Rattle.plan.proofs.Good.{read-back}
 use Rattle.lines.specs.Put.{Room, Put}
 use Rattle.whole_run.specs.declared.running.Printed.{Printed}
 use Rattle.whole_run.specs.Printing.{printingAnswer, textAfter}

@@ -23,7 +23,8 @@ use Rattle.words.specs.Contents.{contents}
 use Rattle.tables.specs.Opening.{asked}
 use Rattle.plan.specs.Entries.{take-table}
 use Rattle.plan.specs.Parts.{partOf, arrivalsIn}
-use Rattle.plan.specs.Good.{Readable, classes-hold, connections-hold, arrivals-hold, never-falling}
+use Rattle.plan.specs.Readable.{Readable}
+use Rattle.plan.proofs.Good.{classes-hold, connections-hold, arrivals-hold, never-falling}
 use Rattle.lines.specs.Put.{Room, Put}
 use Rattle.whole_run.specs.Parts.{Admits, Sorted, admissionsOf, connectionsIn, restOfRun}
 use Rattle.whole_run.proofs.Reached.{Reached, reached-start, reached-as, reached-room, reached-next, reached-on, reached-last, text-append}

@@ -22,7 +22,7 @@ ghost use Rattle.meaning.specs.Run.{openRun};
 ghost use Rattle.meaning.specs.Lines.{runText, textMost, textOf};
 ghost use Rattle.words.specs.Contents.{contents};
 ghost use Rattle.words.specs.Sound.{soundWords};
-ghost use Rattle.plan.specs.Good.{Readable};
+ghost use Rattle.plan.specs.Readable.{Readable};
 ghost use Rattle.lines.specs.Put.{Room, Put};
 ghost use Rattle.whole_run.specs.Printing.{RunPromise};
 

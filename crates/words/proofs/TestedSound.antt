@@ -10,7 +10,8 @@ use lib.Dec.{leb, ltb, eqb}
 use borrow.Author.Tests.{leb-true, le-leb, ltb-true, lt-ltb, eqb-true, eqb-false, eq-eqb, ne-eqb}
 use Rattle.laws.specs.Series.{length-series, every-all, every-index}
 use Rattle.laws.specs.Tests.{every, within-facts, within-test, bool-cases, same-test}
-use Rattle.laws.specs.Deciding.{every-append, every-split, every-flatten, every-unflatten, every-map, every-both}
+use Rattle.laws.specs.Tests.{every-append}
+use Rattle.laws.specs.Deciding.{every-split, every-flatten, every-unflatten, every-map, every-both}
 use Rattle.meaning.specs.Numbers.{largestFactor, risingAbove, settingsAllowed, connectionAllowed, mostConnections, mostWaiting, lastSlot}
 use Rattle.meaning.specs.Envelope.{allowanceKept}
 use Rattle.meaning.specs.declared.Packet.{Packet}

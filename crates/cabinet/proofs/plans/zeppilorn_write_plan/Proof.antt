@@ -2,7 +2,7 @@
 use borrow.Author.Needs.{needs}
 use mathlib.Core.Path.{sym}
 use Rattle.meaning.specs.Answers.{planWritten}
-use Rattle.plan.specs.Written.{lent}
+use Rattle.plan_writer.specs.Written.{lent}
 use Rattle.cabinet.proofs.Sizes.{write-fits}
 use Rattle.cabinet.proofs.Tells.{tells}
 use Rattle.cabinet.proofs.plans.zeppilorn_write_plan.Statement.{statement}

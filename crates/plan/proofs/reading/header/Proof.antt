@@ -22,7 +22,18 @@ table-requires-3 c κs = search needs
 
 returns : tie.Need-returns
 unfolding headerOf tableOf
-returns c = rw (c .before .before .before .before .number .ensures, c .before .before .before .number2 .ensures, c .before .before .table .ensures, c .before .table2 .ensures, c .table3 .ensures)
+returns c =
+    let connections = c .before in
+    let classes = connections .before in
+    let cycle = classes .before in
+    let interval = cycle .before in
+    rw (
+      interval .number .ensures,
+      cycle .number2 .ensures,
+      classes .table .ensures,
+      connections .table2 .ensures,
+      c .table3 .ensures,
+    )
 
 pub header-spec : {M : Type 1} → statement M
 header-spec =

@@ -1,82 +1,114 @@
--- `reading::layout_wrong` meets its contract: each answer follows from the tests that led to it. Assumes nothing.
-use borrow.Author.Tests.{le-leb, lt-leb, eq-eqb, ne-eqb}
-use Rattle.meaning.specs.Plan.{layoutWrong, countsAllowed}
+-- `reading::layout_wrong` meets its contract: each answer follows from the tests that led to it, whose places are named `counts` (of the
+-- counts), `first`, `second` and `third` (of the offsets). Assumes nothing.
+use mathlib.Core.Path.{sym, _∙_}
+use native.Mathlib.Omega.{arith}
+use borrow.Author.Tests.{eq-eqb, ne-eqb, not-true, not-false}
+use Rattle.meaning.specs.Plan.{layoutWrong}
 use borrow.Author.Needs.{needs}
+use Rattle.plan.proofs.LaidOut.{counts-few}
 use Rattle.plan.proofs.reading.layout_wrong.Statement.{statement}
 use Rattle.plan.proofs.reading.layout_wrong.Tie as tie
 
+counts-allowed-requires : tie.Need-counts-allowed-requires
+counts-allowed-requires c κs = search needs
+
 returns : tie.Need-returns
-unfolding layoutWrong countsAllowed
-returns c = simp (lt-leb _ _ (c .if1 .taken))
+unfolding layoutWrong
+returns c = simp (sym (c .before .counts-allowed .ensures) ∙ not-true _ (c .if1 .taken))
 
 returns-2 : tie.Need-returns-2
-unfolding layoutWrong countsAllowed
+unfolding layoutWrong
 returns-2 c =
-    simp
-    (le-leb _ _ (c .before .before .if1 .left), lt-leb _ _ (c .if2 .taken))
-
-returns-3 : tie.Need-returns-3
-unfolding layoutWrong countsAllowed
-returns-3 c =
-    simp
-    (le-leb _ _ (c .before .before .before .before .if1 .left), le-leb _ _ (c .before .before .if2 .left), lt-leb _ _ (c .if3 .taken))
-
-returns-4 : tie.Need-returns-4
-unfolding layoutWrong countsAllowed
-returns-4 c =
-    simp
-    (le-leb _ _ (c .before .before .before .before .before .before .if1 .left), le-leb _ _ (c .before .before .before .before .if2 .left), le-leb _ _ (c .before .before .if3 .left), ne-eqb _ _ (c .if4 .taken))
+    let counts = c .before .before in
+    simp (sym (counts .before .counts-allowed .ensures) ∙ not-false _ (counts .if1 .left), ne-eqb _ _ (c .if2 .taken))
 
 mul-after-classes : tie.Need-mul-after-classes
-mul-after-classes c = search needs
+mul-after-classes c =
+    let counts = c .before .before .before in
+    let few = counts-few _ _ _ (sym (counts .before .counts-allowed .ensures) ∙ not-false _ (counts .if1 .left)) in
+    omega arith
 
 add-after-classes : tie.Need-add-after-classes
-add-after-classes c = search needs
+add-after-classes c =
+    let counts = c .before .before .before in
+    let few = counts-few _ _ _ (sym (counts .before .counts-allowed .ensures) ∙ not-false _ (counts .if1 .left)) in
+    omega arith
 
-returns-5 : tie.Need-returns-5
-unfolding layoutWrong countsAllowed
-returns-5 c =
-    simp
-    (le-leb _ _ (c .before .before .before .before .before .before .before .before .before .if1 .left), le-leb _ _ (c .before .before .before .before .before .before .before .if2 .left), le-leb _ _ (c .before .before .before .before .before .if3 .left), eq-eqb _ _ (c .before .before .before .if4 .left), ne-eqb _ _ (c .if5 .taken))
+returns-3 : tie.Need-returns-3
+unfolding layoutWrong
+returns-3 c =
+    let first = c .before .before .before in
+    let counts = first .before .before in
+    simp (
+      sym (counts .before .counts-allowed .ensures) ∙ not-false _ (counts .if1 .left),
+      eq-eqb _ _ (first .if2 .left),
+      ne-eqb _ _ (c .if3 .taken),
+    )
 
 mul-after-connections : tie.Need-mul-after-connections
-mul-after-connections c = search needs
+mul-after-connections c =
+    let counts = c .before .before .before .before .before .before in
+    let few = counts-few _ _ _ (sym (counts .before .counts-allowed .ensures) ∙ not-false _ (counts .if1 .left)) in
+    omega arith
 
 add-after-connections : tie.Need-add-after-connections
-add-after-connections c = search needs
+add-after-connections c =
+    let counts = c .before .before .before .before .before .before in
+    let few = counts-few _ _ _ (sym (counts .before .counts-allowed .ensures) ∙ not-false _ (counts .if1 .left)) in
+    omega arith
 
-returns-6 : tie.Need-returns-6
-unfolding layoutWrong countsAllowed
-returns-6 c =
-    simp
-    (le-leb _ _ (c .before .before .before .before .before .before .before .before .before .before .before .before .if1 .left), le-leb _ _ (c .before .before .before .before .before .before .before .before .before .before .if2 .left), le-leb _ _ (c .before .before .before .before .before .before .before .before .if3 .left), eq-eqb _ _ (c .before .before .before .before .before .before .if4 .left), eq-eqb _ _ (c .before .before .before .if5 .left), ne-eqb _ _ (c .if6 .taken))
+returns-4 : tie.Need-returns-4
+unfolding layoutWrong
+returns-4 c =
+    let second = c .before .before .before in
+    let first = second .before .before .before in
+    let counts = first .before .before in
+    simp (
+      sym (counts .before .counts-allowed .ensures) ∙ not-false _ (counts .if1 .left),
+      eq-eqb _ _ (first .if2 .left),
+      eq-eqb _ _ (second .if3 .left),
+      ne-eqb _ _ (c .if4 .taken),
+    )
 
 mul-result : tie.Need-mul-result
-mul-result c = search needs
+mul-result c =
+    let counts = c .before .before .before .before .before .before .before .before .before in
+    let few = counts-few _ _ _ (sym (counts .before .counts-allowed .ensures) ∙ not-false _ (counts .if1 .left)) in
+    omega arith
 
 add-result : tie.Need-add-result
-add-result c = search needs
+add-result c =
+    let counts = c .before .before .before .before .before .before .before .before .before in
+    let few = counts-few _ _ _ (sym (counts .before .counts-allowed .ensures) ∙ not-false _ (counts .if1 .left)) in
+    omega arith
 
-returns-7 : tie.Need-returns-7
-unfolding layoutWrong countsAllowed
-returns-7 c =
-    simp
-    (le-leb _ _ (c .before .before .before .before .before .before .before .before .before .before .before .before .before .if1 .left), le-leb _ _ (c .before .before .before .before .before .before .before .before .before .before .before .if2 .left), le-leb _ _ (c .before .before .before .before .before .before .before .before .before .if3 .left), eq-eqb _ _ (c .before .before .before .before .before .before .before .if4 .left), eq-eqb _ _ (c .before .before .before .before .if5 .left), eq-eqb _ _ (c .before .if6 .left))
+returns-5 : tie.Need-returns-5
+unfolding layoutWrong
+returns-5 c =
+    let third = c .before in
+    let second = third .before .before .before in
+    let first = second .before .before .before in
+    let counts = first .before .before in
+    simp (
+      sym (counts .before .counts-allowed .ensures) ∙ not-false _ (counts .if1 .left),
+      eq-eqb _ _ (first .if2 .left),
+      eq-eqb _ _ (second .if3 .left),
+      eq-eqb _ _ (third .if4 .left),
+    )
 
 pub layout-wrong-spec : {M : Type 1} → statement M
 layout-wrong-spec =
     tie.close
     (tie.spec
+    counts-allowed-requires
     returns
     returns-2
-    returns-3
-    returns-4
     mul-after-classes
     add-after-classes
-    returns-5
+    returns-3
     mul-after-connections
     add-after-connections
-    returns-6
+    returns-4
     mul-result
     add-result
-    returns-7)
+    returns-5)

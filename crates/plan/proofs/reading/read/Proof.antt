@@ -1,9 +1,9 @@
 -- `reading::read` meets its contract: each answer follows from the tests that led to it, in document 01's order. Assumes nothing.
-use Rattle.plan.specs.Reading.{sum-right, sum-off, answer-13, answer-14, answer-15, answer-16, answer-0, slots-of-rest}
+use Rattle.plan.proofs.Answers.{sum-right, sum-off, answer-13, answer-14, answer-15, answer-16, answer-0, slots-of-rest}
 use mathlib.Core.Path.{sym, _∙_}
 use native.Mathlib.Omega.{arith}
 use Rattle.meaning.specs.Plan.{wordsOf}
-use Rattle.plan.specs.Layout.{layout-facts}
+use Rattle.plan.proofs.LaidOut.{layout-facts}
 use borrow.Author.Needs.{needs}
 use Rattle.plan.proofs.reading.read.Statement.{statement}
 use Rattle.plan.proofs.reading.read.Tie as tie

@@ -1,4 +1,5 @@
--- `reading::slots_wrong` meets its contract. The loop's invariant: the arrivals that are left pass the test exactly when all do. Assumes nothing.
+-- `reading::slots_wrong` meets its contract. The loop's invariant: the arrivals that are left pass the test exactly when all do.
+-- Assumes nothing.
 use denote.Ref.{now}
 use Prim.Native.Nat.{_+_, _-_, _/_, _≤_, _<_}
 use mathlib.Core.Bool.{true, false}
@@ -9,12 +10,14 @@ use lib.ListN.{length, drop}
 use Rattle.meaning.specs.Plan.{wordsOf}
 use Rattle.plan.specs.Parts.{arrivalsIn}
 use Rattle.plan.specs.Entries.{length-table}
-use Rattle.plan.specs.Steps.{slotsGoodFrom, slots-next, slots-fall, slots-exceed, slots-end, slots-answer, slot-at}
+use Rattle.plan.proofs.Passes.{slotsGoodFrom, slots-next, slots-fall, slots-exceed, slots-end, slots-answer, slot-at}
 use Rattle.plan.proofs.reading.slots_wrong.Statement.{statement}
 use Rattle.plan.proofs.reading.slots_wrong.Tie as tie
 
 abbrev Inv-loop : tie.InvT-loop
-Inv-loop arrivals count low₀ i₀ low i = (i ≤ count) × (count ≡ length arrivals / 12) × (slotsGoodFrom low (drop i (arrivalsIn arrivals)) ≡ slotsGoodFrom 0 (arrivalsIn arrivals))
+Inv-loop arrivals count low₀ i₀ low i =
+    (i ≤ count) × (count ≡ length arrivals / 12) ×
+    (slotsGoodFrom low (drop i (arrivalsIn arrivals)) ≡ slotsGoodFrom 0 (arrivalsIn arrivals))
 
 abbrev μ-loop : tie.MeasureT-loop
 μ-loop arrivals count low₀ i₀ low i = count - i

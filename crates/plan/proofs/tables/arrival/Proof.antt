@@ -2,7 +2,7 @@
 use native.Mathlib.Omega.{arith}
 use Prim.Native.Nat.{_+_, _*_}
 use Rattle.meaning.specs.Plan.{arrivalAt}
-use Rattle.plan.specs.Words.{word-past}
+use Rattle.plan.proofs.WordLaws.{word-past}
 use borrow.Author.Needs.{needs}
 use Rattle.plan.proofs.tables.arrival.Statement.{statement}
 use Rattle.plan.proofs.tables.arrival.Tie as tie
@@ -11,7 +11,11 @@ returns : tie.Need-returns
 unfolding arrivalAt
 returns c =
     let a = c .before .before .args in
-    rw (word-past (a .arrivals .now) (3 * a .i) (omega arith), word-past (a .arrivals .now) (3 * a .i + 1) (omega arith), word-past (a .arrivals .now) (3 * a .i + 2) (omega arith))
+    rw (
+      word-past (a .arrivals .now) (3 * a .i) (omega arith),
+      word-past (a .arrivals .now) (3 * a .i + 1) (omega arith),
+      word-past (a .arrivals .now) (3 * a .i + 2) (omega arith),
+    )
 
 mul-number : tie.Need-mul-number
 mul-number c = search needs

@@ -2,7 +2,7 @@
 use native.Mathlib.Omega.{arith}
 use Prim.Native.Nat.{_+_, _*_}
 use Rattle.meaning.specs.Plan.{connectionAt}
-use Rattle.plan.specs.Words.{word-past}
+use Rattle.plan.proofs.WordLaws.{word-past}
 use borrow.Author.Needs.{needs}
 use Rattle.plan.proofs.tables.connection.Statement.{statement}
 use Rattle.plan.proofs.tables.connection.Tie as tie
@@ -11,7 +11,12 @@ returns : tie.Need-returns
 unfolding connectionAt
 returns c =
     let a = c .before .before .args in
-    rw (word-past (a .connections .now) (4 * a .i) (omega arith), word-past (a .connections .now) (4 * a .i + 1) (omega arith), word-past (a .connections .now) (4 * a .i + 2) (omega arith), word-past (a .connections .now) (4 * a .i + 3) (omega arith))
+    rw (
+      word-past (a .connections .now) (4 * a .i) (omega arith),
+      word-past (a .connections .now) (4 * a .i + 1) (omega arith),
+      word-past (a .connections .now) (4 * a .i + 2) (omega arith),
+      word-past (a .connections .now) (4 * a .i + 3) (omega arith),
+    )
 
 mul-number : tie.Need-mul-number
 mul-number c = search needs
@@ -48,7 +53,11 @@ number-requires-4 c κs = search needs
 
 returns-2 : tie.Need-returns-2
 unfolding connectionAt
-returns-2 c = rw (c .before .before .before .number .ensures, c .before .before .number2 .ensures, c .before .number3 .ensures, c .number4 .ensures)
+returns-2 c =
+    let third = c .before in
+    let second = third .before in
+    let first = second .before in
+    rw (first .number .ensures, second .number2 .ensures, third .number3 .ensures, c .number4 .ensures)
 
 pub connection-spec : {M : Type 1} → statement M
 connection-spec =

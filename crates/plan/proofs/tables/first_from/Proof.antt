@@ -6,12 +6,13 @@ use lib.ListN.{length}
 use Rattle.meaning.specs.Plan.{wordsOf}
 use Rattle.plan.specs.Parts.{arrivalsIn, boundary}
 use Rattle.plan.specs.Entries.{length-table}
-use Rattle.plan.specs.Steps.{boundary-next, boundary-here, boundary-end, slot-at}
+use Rattle.plan.proofs.Passes.{boundary-next, boundary-here, boundary-end, slot-at}
 use Rattle.plan.proofs.tables.first_from.Statement.{statement}
 use Rattle.plan.proofs.tables.first_from.Tie as tie
 
 abbrev Inv-loop : tie.InvT-loop
-Inv-loop arrivals from limit count i₀ i = (count ≡ length arrivals / 12) × (boundary (arrivalsIn arrivals) i limit ≡ boundary (arrivalsIn arrivals) from limit)
+Inv-loop arrivals from limit count i₀ i =
+    (count ≡ length arrivals / 12) × (boundary (arrivalsIn arrivals) i limit ≡ boundary (arrivalsIn arrivals) from limit)
 
 abbrev μ-loop : tie.MeasureT-loop
 μ-loop arrivals from limit count i₀ i = count - i

@@ -4,7 +4,7 @@ use borrow.Author.Tests.{le-leb, lt-leb}
 use native.Mathlib.Nat.{add-sub-cancel-left}
 use lib.ListN.{length}
 use Rattle.plan.specs.Parts.{partOf}
-use Rattle.plan.specs.Fitting.{entries-fit, entries-over}
+use Rattle.plan.proofs.Fitting.{entries-fit, entries-over}
 use native.Mathlib.Omega.{arith}
 use borrow.Author.Needs.{needs}
 use Rattle.plan.proofs.tables.part.Statement.{statement}
@@ -32,18 +32,23 @@ slice-aggregate-result-2 c = search needs
 returns-2 : tie.Need-returns-2
 unfolding partOf
 returns-2 c =
-    let a = c .before .before .before .args in
-    rw (lt-leb _ _ (entries-over (length (a .plan .now)) (a .t .start) (a .t .count) (a .width) (c .before .before .before .pre) (c .before .if2 .taken)))
+    let s = c .before .before .before in
+    let a = s .args in
+    rw (lt-leb _ _ (entries-over (length (a .plan .now)) (a .t .start) (a .t .count) (a .width) (s .pre) (c .before .if2 .taken)))
 
 mul-end : tie.Need-mul-end
 mul-end c =
-    let a = c .before .before .args in
-    omega (arith, entries-fit (length (a .plan .now)) (a .t .start) (a .t .count) (a .width) (c .before .before .pre) (c .before .if1 .left) (c .if2 .left))
+    let s = c .before .before in
+    let a = s .args in
+    let fits = entries-fit (length (a .plan .now)) (a .t .start) (a .t .count) (a .width) (s .pre) (c .before .if1 .left) (c .if2 .left) in
+    omega arith
 
 add-end : tie.Need-add-end
 add-end c =
-    let a = c .before .before .args in
-    omega (arith, entries-fit (length (a .plan .now)) (a .t .start) (a .t .count) (a .width) (c .before .before .pre) (c .before .if1 .left) (c .if2 .left))
+    let s = c .before .before in
+    let a = s .args in
+    let fits = entries-fit (length (a .plan .now)) (a .t .start) (a .t .count) (a .width) (s .pre) (c .before .if1 .left) (c .if2 .left) in
+    omega arith
 
 sub-result : tie.Need-sub-result
 sub-result c = search needs
@@ -53,14 +58,19 @@ part-result-start c = search needs
 
 part-result-end : tie.Need-part-result-end
 part-result-end c =
-    let a = c .before .before .args in
-    entries-fit (length (a .plan .now)) (a .t .start) (a .t .count) (a .width) (c .before .before .pre) (c .before .if1 .left) (c .if2 .left)
+    let s = c .before .before in
+    let a = s .args in
+    entries-fit (length (a .plan .now)) (a .t .start) (a .t .count) (a .width) (s .pre) (c .before .if1 .left) (c .if2 .left)
 
 returns-3 : tie.Need-returns-3
 unfolding partOf
 returns-3 c =
-    let a = c .before .before .before .args in
-    rw (le-leb _ _ (entries-fit (length (a .plan .now)) (a .t .start) (a .t .count) (a .width) (c .before .before .before .pre) (c .before .before .if1 .left) (c .before .if2 .left)), add-sub-cancel-left)
+    let s = c .before .before .before in
+    let a = s .args in
+    let fits =
+    entries-fit (length (a .plan .now)) (a .t .start) (a .t .count) (a .width)
+    (s .pre) (c .before .before .if1 .left) (c .before .if2 .left) in
+    rw (le-leb _ _ fits, add-sub-cancel-left)
 
 pub part-spec : {M : Type 1} → statement M
 part-spec =

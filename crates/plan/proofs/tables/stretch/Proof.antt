@@ -2,7 +2,8 @@
 use Prim.Native.Nat.{_+_, _*_, _≤_}
 use native.Mathlib.Omega.{arith}
 use lib.ListN.{length}
-use Rattle.plan.specs.Stretch.{boundary-within, stretch-past, stretch-is}
+use Rattle.plan.specs.StretchPlaces.{boundary-within}
+use Rattle.plan.proofs.Stretch.{stretch-past, stretch-is}
 use borrow.Author.Needs.{needs}
 use Rattle.plan.proofs.tables.stretch.Statement.{statement}
 use Rattle.plan.proofs.tables.stretch.Tie as tie
@@ -24,8 +25,11 @@ add-first-from c = search needs
 first-from-requires-2 : tie.Need-first-from-requires-2
 first-from-requires-2 c κs = search needs
 
--- where the stretch starts and ends, in bytes
-within : (c : tie.After-first-from2) → (c .before .first-from .result ≤ c .first-from2 .result) × (12 * c .first-from2 .result ≤ length (c .before .before .before .before .args .arrivals .now))
+-- The stretch ends behind its start, within the bytes.
+within :
+    (c : tie.After-first-from2) →
+    (c .before .first-from .result ≤ c .first-from2 .result) ×
+    (12 * c .first-from2 .result ≤ length (c .before .before .before .before .args .arrivals .now))
 within c =
     let a = c .before .before .before .before .args in
     let first = boundary-within (a .arrivals .now) (a .from) (a .slot) (omega arith) in

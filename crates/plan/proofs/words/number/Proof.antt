@@ -1,7 +1,7 @@
 -- `words::number` meets its contract: past the end of the bytes there is no word, and 0 is answered. Assumes nothing.
 use denote.Ref.{now}
 use mathlib.Core.Path.{sym}
-use Rattle.plan.specs.Words.{word-past}
+use Rattle.plan.proofs.WordLaws.{word-past}
 use borrow.Author.Needs.{needs}
 use Rattle.plan.proofs.words.number.Statement.{statement}
 use Rattle.plan.proofs.words.number.Tie as tie

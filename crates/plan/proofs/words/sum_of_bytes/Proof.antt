@@ -7,13 +7,15 @@ use native.Mathlib.Omega.{arith}
 use native.Mathlib.Nat.{zero-add}
 use borrow.Author.Needs.{needs}
 use Rattle.meaning.specs.Plan.{wordsOf, sumWords}
-use Rattle.plan.specs.Words.{length-wordsOf}
-use Rattle.plan.specs.Steps.{sumFrom, sum-step, sum-end}
+use Rattle.plan.proofs.WordLaws.{length-wordsOf}
+use Rattle.plan.proofs.Passes.{sumFrom, sum-step, sum-end}
 use Rattle.plan.proofs.words.sum_of_bytes.Statement.{statement}
 use Rattle.plan.proofs.words.sum_of_bytes.Tie as tie
 
 abbrev Inv-loop : tie.InvT-loop
-Inv-loop bytes count sum₀ i₀ sum i = (i ≤ count) × (count ≡ length bytes / 4) × (sum < 2 ^ 32) × ((sum + sumFrom (wordsOf bytes) i) % 2 ^ 32 ≡ sumWords (wordsOf bytes))
+Inv-loop bytes count sum₀ i₀ sum i =
+    (i ≤ count) × (count ≡ length bytes / 4) × (sum < 2 ^ 32) ×
+    ((sum + sumFrom (wordsOf bytes) i) % 2 ^ 32 ≡ sumWords (wordsOf bytes))
 
 abbrev μ-loop : tie.MeasureT-loop
 μ-loop bytes count sum₀ i₀ sum i = count - i

@@ -1,8 +1,8 @@
--- `words::word` meets its contract: the four bytes, each below 256, are those of the word that the law `word-within` names. Assumes nothing.
+-- `words::word` meets its contract: the four bytes, each below 256, are those of the word that `word-within` names. Assumes nothing.
 use denote.Ref.{now}
 use native.Mathlib.Omega.{arith}
 use Rattle.meaning.specs.Plan.{wordAt}
-use Rattle.plan.specs.Words.{word-within}
+use Rattle.plan.proofs.WordLaws.{word-within}
 use borrow.Author.Needs.{needs}
 use Rattle.plan.proofs.words.word.Statement.{statement}
 use Rattle.plan.proofs.words.word.Tie as tie

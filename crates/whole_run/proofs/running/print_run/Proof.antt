@@ -2,7 +2,7 @@
 use Prim.Native.Nat.{ℕ}
 use mathlib.Core.Path.{sym, subst, _∙_}
 use mathlib.Core.List.{List}
-use Rattle.plan.specs.Good.{read-facts}
+use Rattle.plan.proofs.Good.{read-facts}
 use Rattle.lines.specs.Put.{Room, Put}
 use Rattle.whole_run.proofs.Texts.{text-room, refused-13, refused-14, refused-15, refused-16}
 use borrow.Author.Needs.{needs}
