@@ -1,7 +1,9 @@
 // One step. Document 01, "Queues and steps", second paragraph.
 use meaning::Packet;
+use meaning::Refusal;
 use meaning::Stepped;
 use words::parts::counter;
+use words::parts::interval;
 use words::parts::raise_counter;
 use words::parts::read_link;
 use words::parts::write_link;
@@ -26,7 +28,7 @@ fn turn_due(ws: &[u32]) -> bool
     ensures { λ r. ⌜ r ≡ turnDue (contents (now (ws .entry))) ⌝ }
 {
     let next = counter_of(ws) + 1;
-    next % ws[0] == 0
+    next % interval(ws) == 0
 }
 
 // The counter of sound words.
@@ -101,10 +103,10 @@ pub fn step_sound(ws: &mut [u32]) -> Stepped
     ensures { λ r. ⌜ StepSoundPromise (now (ws .entry)) r (now (ws .exit)) ⌝ }
 {
     if 4000000000 <= counter_of(ws) {
-        return Stepped::CounterEnded;
+        return Stepped::Refused(Refusal::CounterEnded);
     }
     if blocked(ws) {
-        return Stepped::TurnBlocked;
+        return Stepped::Refused(Refusal::TurnBlocked);
     }
     move_on(ws)
 }
@@ -114,7 +116,7 @@ pub fn step(ws: &mut [u32]) -> Stepped
     ensures { λ r. ⌜ StepPromise (now (ws .entry)) r (now (ws .exit)) ⌝ }
 {
     if !is_sound(ws) {
-        return Stepped::NotSound;
+        return Stepped::Refused(Refusal::NotSound);
     }
     step_sound(ws)
 }

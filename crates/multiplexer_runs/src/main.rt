@@ -3,6 +3,8 @@
 ghost use mathlib.Core.Path.{_≡_};
 ghost use Prim.Native.Nat.{_<_, _^_};
 ghost use lib.ListN.{length};
+use answers::number_of;
+use answers::tell_admitted;
 use libc::STDOUT_FILENO;
 use meaning::Admitted;
 use meaning::Offered;
@@ -51,8 +53,7 @@ fn show_opened(r: Opened) {
     say(b"OPEN");
     match r {
         Opened::Done => last_field(0),
-        Opened::OffRange => last_field(2),
-        Opened::TooShort => last_field(17),
+        Opened::Refused(why) => last_field(number_of(why)),
     }
 }
 
@@ -61,11 +62,10 @@ fn show_admitted(r: Admitted) {
     say(b"ADMIT");
     match r {
         Admitted::Taken(n) => last_fields(0, n),
-        Admitted::NotSound => last_fields(1, 0),
-        Admitted::OffRange => last_fields(3, 0),
-        Admitted::TableFull => last_fields(4, 0),
-        Admitted::RateExceeded => last_fields(5, 0),
-        Admitted::ConditionFails(t) => last_fields(6, t),
+        Admitted::Refused(why) => {
+            let told = tell_admitted(r);
+            last_fields(told[0], told[2]);
+        }
     }
 }
 
@@ -74,11 +74,7 @@ fn show_offered(r: Offered) {
     say(b"OFFER");
     match r {
         Offered::Accepted(serial) => last_fields(0, serial),
-        Offered::NotSound => last_fields(1, 0),
-        Offered::NoConnection => last_fields(7, 0),
-        Offered::WrongLength => last_fields(8, 0),
-        Offered::NotFitting => last_fields(9, 0),
-        Offered::StoreFull => last_fields(10, 0),
+        Offered::Refused(why) => last_fields(number_of(why), 0),
     }
 }
 
@@ -107,9 +103,10 @@ fn show_stepped(r: Stepped) {
         } => {
             show_departed(serial, connection, arrival, departure);
         }
-        Stepped::NotSound => say(b"STEP 1\n"),
-        Stepped::CounterEnded => say(b"STEP 12\n"),
-        Stepped::TurnBlocked => say(b"STEP 11\n"),
+        Stepped::Refused(why) => {
+            say(b"STEP");
+            last_field(number_of(why));
+        }
     }
 }
 

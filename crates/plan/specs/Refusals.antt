@@ -7,9 +7,10 @@ use native.Mathlib.Omega.{arith}
 use lib.ListN.{length}
 use lib.Dec.{ltb}
 use Rattle.meaning.specs.declared.Header.{Header}
+use Rattle.meaning.specs.declared.Refusal.{Refusal}
 use Rattle.meaning.specs.declared.PlanRead.{PlanRead}
 use Rattle.meaning.specs.declared.PlanWritten.{PlanWritten}
-use Rattle.meaning.specs.Answers.{planRead, planWritten, refusal}
+use Rattle.meaning.specs.Answers.{planRead, planWritten, refusalNumber, refusal}
 use Rattle.meaning.specs.Plan.{Lent, lentPlan, lentWrong, sizeOf, wordsOf, headerOf, contentsOf, sizeWrong, sumWrong, layoutWrong, slotsWrong, readingAnswer, writingAnswer}
 
 -- The number of the first test of reading that refuses, 0 where none does.
@@ -57,9 +58,9 @@ unfoldable pub readingNumber : List ℕ → ℕ
 readingNumber bytes = planRead (readingAnswer bytes) .number
 
 read-number :
-    (a b c d : Bool) (h : Header) → planRead (cond a PlanRead.WrongSize (cond b PlanRead.WrongSum (cond c PlanRead.WrongLayout (cond d PlanRead.WrongSlots (PlanRead.Good h))))) .number ≡
+    (a b c d : Bool) (h : Header) → planRead (cond a (PlanRead.Refused Refusal.WrongSize) (cond b (PlanRead.Refused Refusal.WrongSum) (cond c (PlanRead.Refused Refusal.WrongLayout) (cond d (PlanRead.Refused Refusal.WrongSlots) (PlanRead.Good h))))) .number ≡
     readingOf a b c d
-unfolding planRead refusal
+unfolding planRead refusal refusalNumber
 read-number true b c d h = refl
 read-number false true c d h = refl
 read-number false false true d h = refl
@@ -104,9 +105,9 @@ unfoldable pub writingNumber : Lent → ℕ → ℕ
 writingNumber l room = planWritten (writingAnswer l room) .number
 
 written-number :
-    (a b c : Bool) (n : ℕ) → planWritten (cond a PlanWritten.WrongLayout (cond b PlanWritten.WrongSlots (cond c PlanWritten.TooShort (PlanWritten.Written n)))) .number ≡
+    (a b c : Bool) (n : ℕ) → planWritten (cond a (PlanWritten.Refused Refusal.WrongLayout) (cond b (PlanWritten.Refused Refusal.WrongSlots) (cond c (PlanWritten.Refused Refusal.TooShort) (PlanWritten.Written n)))) .number ≡
     writingOf a b c
-unfolding planWritten refusal
+unfolding planWritten refusal refusalNumber
 written-number true b c n = refl
 written-number false true c n = refl
 written-number false false true n = refl

@@ -10,6 +10,7 @@ use lib.Seq.{take-all}
 use lib.Dec.{ltb, eqb}
 use borrow.Author.Tests.{leb-true, eqb-true, not-false, lt-ltb, le-ltb, le-leb, eq-eqb}
 use Rattle.laws.specs.Sums.{sumOf}
+use Rattle.meaning.specs.declared.Refusal.{Refusal}
 use Rattle.meaning.specs.declared.PlanWritten.{PlanWritten}
 use Rattle.meaning.specs.Plan.{Lent, writingAnswer, slotsWrong, lentPlan, lentWrong, countsAllowed, sizeOf, headerWords, tableWords, sumWord, sumWords, planWords, planBytes, connectionAt, arrivalAt}
 use Rattle.plan.specs.Layout.{both}
@@ -149,19 +150,19 @@ module _ (interval cycle : ℕ) (factors connections arrivals : List ℕ) (whole
 
 -- The four answers of writing and the buffer after each, from the tests that lead to it.
 module _ (l : Lent) (buf : List ℕ) where
-  pub answer-15 : lentWrong l ≡ true → (PlanWritten.WrongLayout ≡ writingAnswer l (length buf)) × (buf ≡ bytesAfter l buf)
+  pub answer-15 : lentWrong l ≡ true → ((PlanWritten.Refused Refusal.WrongLayout) ≡ writingAnswer l (length buf)) × (buf ≡ bytesAfter l buf)
   unfolding writingAnswer bytesAfter bytesBy
   answer-15 a = (rw a, rw a)
 
   module _ (a : lentWrong l ≡ false) where
     pub answer-16 :
-        slotsWrong (lentPlan l .arrivals) ≡ true → (PlanWritten.WrongSlots ≡ writingAnswer l (length buf)) × (buf ≡ bytesAfter l buf)
+        slotsWrong (lentPlan l .arrivals) ≡ true → ((PlanWritten.Refused Refusal.WrongSlots) ≡ writingAnswer l (length buf)) × (buf ≡ bytesAfter l buf)
     unfolding writingAnswer bytesAfter bytesBy
     answer-16 b = (rw (a, b), rw (a, b))
 
     module _ (b : slotsWrong (lentPlan l .arrivals) ≡ false) where
       pub answer-17 :
-          length buf < sizeOf (lentPlan l) → (PlanWritten.TooShort ≡ writingAnswer l (length buf)) × (buf ≡ bytesAfter l buf)
+          length buf < sizeOf (lentPlan l) → ((PlanWritten.Refused Refusal.TooShort) ≡ writingAnswer l (length buf)) × (buf ≡ bytesAfter l buf)
       unfolding writingAnswer bytesAfter bytesBy
       answer-17 c = let t = lt-ltb _ _ c in (rw (a, b, t), rw (a, b, t))
 

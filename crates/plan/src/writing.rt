@@ -9,6 +9,7 @@ ghost use Rattle.plan.specs.Bytes.{pasted};
 use super::words::add_words;
 use super::words::put_words;
 use meaning::PlanWritten;
+use meaning::Refusal;
 
 // Counts that are too large, or tables that are not whole entries.
 fn lent_wrong(factors: usize, connections: usize, arrivals: usize) -> bool
@@ -102,14 +103,14 @@ pub fn write(
     ensures bytes { λ r. ⌜ now (buf .exit) ≡ bytesAfter (lent interval cycle (now (factors .entry)) (now (connections .entry)) (now (arrivals .entry))) (now (buf .entry)) ⌝ }
 {
     if lent_wrong(factors.len(), connections.len(), arrivals.len()) {
-        return PlanWritten::WrongLayout;
+        return PlanWritten::Refused(Refusal::WrongLayout);
     }
     if slots_wrong(arrivals) {
-        return PlanWritten::WrongSlots;
+        return PlanWritten::Refused(Refusal::WrongSlots);
     }
     let size = 40 + 4 * factors.len() + 4 * connections.len() + 4 * arrivals.len();
     if buf.len() < size {
-        return PlanWritten::TooShort;
+        return PlanWritten::Refused(Refusal::TooShort);
     }
     put_plan(interval, cycle, factors, connections, arrivals, buf);
     PlanWritten::Written(size)

@@ -4,6 +4,7 @@ mod saying;
 mod showing;
 mod writing;
 
+use answers::number_of;
 use meaning::Header;
 use meaning::PlanRead;
 use rooms::sevens;
@@ -42,10 +43,7 @@ fn show_read(plan: &[u8]) {
     let r = plan::reading::read(plan);
     match r {
         PlanRead::Good(h) => show_good(plan, h),
-        PlanRead::WrongSize => last_field(13),
-        PlanRead::WrongSum => last_field(14),
-        PlanRead::WrongLayout => last_field(15),
-        PlanRead::WrongSlots => last_field(16),
+        PlanRead::Refused(why) => last_field(number_of(why) as u64),
     }
 }
 

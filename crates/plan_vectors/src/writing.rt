@@ -4,6 +4,7 @@ use super::rooms::sevens;
 use super::saying::field;
 use super::saying::last_field;
 use super::saying::say;
+use answers::number_of;
 use meaning::Header;
 use meaning::PlanWritten;
 
@@ -39,9 +40,7 @@ fn show_written(w: PlanWritten) {
             field(0);
             last_field(n as u64);
         }
-        PlanWritten::WrongLayout => last_field(15),
-        PlanWritten::WrongSlots => last_field(16),
-        PlanWritten::TooShort => last_field(17),
+        PlanWritten::Refused(why) => last_field(number_of(why) as u64),
     }
 }
 

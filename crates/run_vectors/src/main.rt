@@ -2,9 +2,9 @@
 // those of the independent implementation under tests/.
 ghost use Prim.Native.Nat.{_≤_};
 use libc::STDOUT_FILENO;
+use meaning::Printed;
 use whole_run::rooms::plan_room;
 use whole_run::rooms::text_room;
-use whole_run::running::Printed;
 use whole_run::running::run_plan;
 
 // Writes the text of a run.
@@ -31,7 +31,7 @@ fn show(tens: u8, ones: u8) {
     let printed = run_plan(&plan[..n], &mut text);
     match printed {
         Printed::Written(size) => put_out(&text, size),
-        Printed::TooShort => os::fail(&path),
+        Printed::Refused(why) => os::fail(&path),
     }
 }
 

@@ -7,6 +7,7 @@ use crate::places::INTERVAL_AT;
 use crate::places::PACKETS_AT;
 use crate::settings::settings_allowed;
 use meaning::Opened;
+use meaning::Refusal;
 ghost use mathlib.Core.Path.{_≡_};
 ghost use mathlib.Core.List.{_++_};
 ghost use Prim.Native.Nat.{_+_, _≤_};
@@ -43,10 +44,10 @@ pub fn open(ws: &mut [u32], d: u32, m: u32, factors: &[u32]) -> Opened
     ensures { λ r. ⌜ OpenPromise (now (ws .entry)) d m (now (factors .entry)) r (now (ws .exit)) ⌝ }
 {
     if !settings_allowed(d, m, factors) {
-        return Opened::OffRange;
+        return Opened::Refused(Refusal::SettingsOffRange);
     }
     if ws.len() < BOX_WORDS {
-        return Opened::TooShort;
+        return Opened::Refused(Refusal::TooShort);
     }
     clear(ws, PACKETS_AT);
     ws[INTERVAL_AT] = d;
