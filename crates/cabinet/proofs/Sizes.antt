@@ -6,9 +6,11 @@ use mathlib.Core.List.{List, [], _∷_}
 use native.Mathlib.Omega.{arith}
 use lib.Dec.{ltb}
 use lib.ListN.{length, getD, drop, replicate}
+use Rattle.meaning.specs.declared.Refusal.{Refusal}
 use Rattle.meaning.specs.declared.PlanRead.{PlanRead}
 use Rattle.meaning.specs.declared.PlanWritten.{PlanWritten}
-use Rattle.meaning.specs.Answers.{planRead, planWritten, refusal}
+use Rattle.meaning.specs.declared.Printed.{Printed}
+use Rattle.meaning.specs.Answers.{refusal, headerFields, planRead, planWritten, printed}
 use Rattle.meaning.specs.Plan.{Lent, lentWrong, readingAnswer, writingAnswer}
 use Rattle.plan.proofs.Good.{read-facts}
 use Rattle.plan_writer.proofs.Calls.{write-facts}
@@ -16,13 +18,14 @@ use Rattle.plan_writer.specs.Written.{lengthsWrong}
 use Rattle.plan_writer.proofs.LentTables.{lengths-facts, size-of-lent}
 use Rattle.meaning.specs.Lines.{runText, textMost}
 use Rattle.meaning.proofs.RunFits.{run-fits}
-use Rattle.whole_run.specs.declared.running.Printed.{Printed}
-use Rattle.whole_run.specs.Printing.{printed, printingAnswer}
-use Rattle.cabinet.specs.Told.{FitWords}
+use Rattle.whole_run.specs.Printing.{printingAnswer}
+use Rattle.answers.specs.Fitting.{FitWords}
 
+-- No field.
 none : FitWords []
 none = record { fits = λ i. omega arith }
 
+-- One field more.
 more : {n : ℕ} {l : List ℕ} → n < 2 ^ 32 → FitWords l → FitWords (n ∷ l)
 more {n} {l} h f = record { fits = at }
   where
@@ -37,14 +40,11 @@ zeros (suc n) = more (omega arith) (zeros n)
 
 -- the counts and offsets of a plan that was read
 pub read-fits : (bytes : List ℕ) (r : PlanRead) → r ≡ readingAnswer bytes → FitWords (drop 2 (planRead r .fields))
-unfolding planRead refusal
+unfolding planRead refusal headerFields
 read-fits bytes (PlanRead.Good h) e =
     let l = read-facts bytes h (sym e) .laid in
     more (omega arith) (more (omega arith) (more (omega arith) (more (omega arith) (more (omega arith) (more (omega arith) none)))))
-read-fits bytes PlanRead.WrongSize e = zeros 6
-read-fits bytes PlanRead.WrongSum e = zeros 6
-read-fits bytes PlanRead.WrongLayout e = zeros 6
-read-fits bytes PlanRead.WrongSlots e = zeros 6
+read-fits bytes (PlanRead.Refused why) e = zeros 6
 
 -- the size of a plan that was written
 pub write-fits : (l : Lent) (buf : List ℕ) (r : PlanWritten) → r ≡ writingAnswer l (length buf) → FitWords (planWritten r .fields)
@@ -55,15 +55,13 @@ write-fits l buf (PlanWritten.Written size) e =
     let s = size-of-lent (l .interval) (l .cycle) (l .factors) (l .connections) (l .arrivals) w in
     let d = t .size-is in
     more (omega arith) none
-write-fits l buf PlanWritten.WrongLayout e = zeros 1
-write-fits l buf PlanWritten.WrongSlots e = zeros 1
-write-fits l buf PlanWritten.TooShort e = zeros 1
+write-fits l buf (PlanWritten.Refused why) e = zeros 1
 
 -- the size of a text that was printed
 pub run-fits-word : (plan : List ℕ) (room : ℕ) (r : Printed) → r ≡ printingAnswer plan room → FitWords (printed r .fields)
 unfolding printed refusal printingAnswer
 run-fits-word plan room r e = subst (λ (a : Printed). FitWords (printed a .fields)) (sym e) (go (ltb room textMost))
   where
-    go : (b : Bool) → FitWords (printed (cond b Printed.TooShort (Printed.Written (length (runText plan)))) .fields)
+    go : (b : Bool) → FitWords (printed (cond b (Printed.Refused Refusal.TooShort) (Printed.Written (length (runText plan)))) .fields)
     go true = unfold printed in unfold refusal in zeros 1
     go false = unfold printed in (let f = run-fits plan in more (omega arith) none)

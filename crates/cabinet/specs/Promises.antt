@@ -6,6 +6,7 @@ use mathlib.Core.Bool.{cond}
 use mathlib.Core.List.{List, [], _∷_}
 use lib.ListN.{length}
 use Rattle.meaning.specs.Answers
+use Rattle.meaning.specs.declared.Refusal.{Refusal}
 use Rattle.meaning.specs.declared.Connection.{Connection}
 use Rattle.meaning.specs.Plan.{Lent, wordsOf, factorAt, connectionAt, arrivalAt, connectionWords, arrivalWords, readingAnswer, writingAnswer}
 use Rattle.words.specs.Places.{boxWords}
@@ -13,8 +14,8 @@ use Rattle.tables.specs.Opening
 use Rattle.words.specs.Sound.{soundWords}
 use Rattle.multiplexer.specs.Promised.{admission, wordsAdmitted, offering, wordsOffered, stepping, wordsStepped}
 use Rattle.plan_writer.specs.Written.{bytesAfter}
-use Rattle.whole_run.specs.Printing.{printed, printingAnswer, textAfter}
-use Rattle.cabinet.specs.Told.{Told, success}
+use Rattle.whole_run.specs.Printing.{printingAnswer, textAfter}
+use Rattle.cabinet.specs.Told.{Told}
 use Rattle.cabinet.specs.Places.{stretchFirst, stretchSize}
 
 -- "A box takes one fixed number of words".
@@ -29,7 +30,7 @@ OpenPromise entry interval cycle factors r exit =
 
 -- "1 | the state is not sound".
 abbrev pub SoundPromise : List ℕ → ℕ → Type 0
-SoundPromise entry r = r ≡ cond (soundWords entry) 0 1
+SoundPromise entry r = r ≡ cond (soundWords entry) 0 (Answers.refusalNumber Refusal.NotSound)
 
 -- "Admission: 1, 3, 4, 5, 6." The fields are the connection's number, and t.
 abbrev pub AdmitPromise : List ℕ → Connection → ℕ → List ℕ → List ℕ → Type 0
@@ -49,20 +50,20 @@ ReadPromise plan r fields = Told (Answers.planRead (readingAnswer plan)) r field
 
 -- "a factor per class": of the class table, counted from 0.
 abbrev pub FactorPromise : List ℕ → ℕ → ℕ → List ℕ → Type 0
-FactorPromise classes i r fields = Told (success (factorAt (wordsOf classes) i ∷ [])) r fields
+FactorPromise classes i r fields = Told (Answers.success (factorAt (wordsOf classes) i ∷ [])) r fields
 
 -- "class, s, b, T per connection".
 abbrev pub ConnectionPromise : List ℕ → ℕ → ℕ → List ℕ → Type 0
-ConnectionPromise connections i r fields = Told (success (connectionWords (connectionAt (wordsOf connections) (4 * i)))) r fields
+ConnectionPromise connections i r fields = Told (Answers.success (connectionWords (connectionAt (wordsOf connections) (4 * i)))) r fields
 
 -- "slot, connection, length per arrival".
 abbrev pub ArrivalPromise : List ℕ → ℕ → ℕ → List ℕ → Type 0
-ArrivalPromise arrivals i r fields = Told (success (arrivalWords (arrivalAt (wordsOf arrivals) (3 * i)))) r fields
+ArrivalPromise arrivals i r fields = Told (Answers.success (arrivalWords (arrivalAt (wordsOf arrivals) (3 * i)))) r fields
 
 -- "The arrivals of one slot are handed back as a stretch of the caller's own bytes": its first byte and its size.
 abbrev pub StretchPromise : List ℕ → ℕ → ℕ → ℕ → List ℕ → Type 0
 StretchPromise arrivals from slot r fields =
-    Told (success (stretchFirst arrivals from slot ∷ stretchSize arrivals from slot ∷ [])) r fields
+    Told (Answers.success (stretchFirst arrivals from slot ∷ stretchSize arrivals from slot ∷ [])) r fields
 
 -- "Writing: 15, 16, 17." The field is the number of bytes written.
 abbrev pub WritePromise : Lent → List ℕ → ℕ → List ℕ → List ℕ → Type 0
@@ -71,4 +72,4 @@ WritePromise l entry r fields exit =
 
 -- "The program and one whole run": the lines as text, or 17 for a buffer that is too short. The field is the number of bytes written.
 abbrev pub RunPromise : List ℕ → List ℕ → ℕ → List ℕ → List ℕ → Type 0
-RunPromise plan entry r fields exit = Told (printed (printingAnswer plan (length entry))) r fields × (exit ≡ textAfter plan entry)
+RunPromise plan entry r fields exit = Told (Answers.printed (printingAnswer plan (length entry))) r fields × (exit ≡ textAfter plan entry)

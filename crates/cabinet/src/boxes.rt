@@ -1,8 +1,10 @@
 // The calls of a box, on words that the caller lends.
-use super::telling::tell_admitted;
-use super::telling::tell_offered;
-use super::telling::tell_opened;
-use super::telling::tell_stepped;
+use answers::number_of;
+use answers::tell_admitted;
+use answers::tell_offered;
+use answers::tell_opened;
+use answers::tell_stepped;
+use meaning::Refusal;
 use multiplexer::admitting::admit;
 use multiplexer::offering::offer;
 use multiplexer::stepping::step;
@@ -29,8 +31,8 @@ pub extern "C" fn zeppilorn_open(
 ) -> u32
     ensures { λ r. ⌜ OpenPromise (now (words .entry)) interval cycle (now (factors .entry)) r (now (words .exit)) ⌝ }
 {
-    let answer = open(words, interval, cycle, factors);
-    tell_opened(answer)
+    let told = tell_opened(open(words, interval, cycle, factors));
+    told[0]
 }
 
 // Tests the lent words: 0 where they are sound, else 1.
@@ -38,7 +40,11 @@ pub extern "C" fn zeppilorn_open(
 pub extern "C" fn zeppilorn_is_sound(words: &[u32]) -> u32
     ensures { λ r. ⌜ SoundPromise (now (words .entry)) r ⌝ }
 {
-    if is_sound(words) { 0 } else { 1 }
+    if is_sound(words) {
+        0
+    } else {
+        number_of(Refusal::NotSound)
+    }
 }
 
 // Admits a connection, or refuses it: 0, 1, 3, 4, 5 or 6.
@@ -53,8 +59,9 @@ pub extern "C" fn zeppilorn_admit(
 ) -> u32
     ensures { λ r. ⌜ AdmitPromise (now (words .entry)) (record { class = class; longest = longest; burst = burst; period = period }) r (now (fields .exit)) (now (words .exit)) ⌝ }
 {
-    let answer = admit(words, class, longest, burst, period);
-    tell_admitted(answer, fields)
+    let told = tell_admitted(admit(words, class, longest, burst, period));
+    *fields = [told[1], told[2]];
+    told[0]
 }
 
 // Offers a packet: 0, 1, 7, 8, 9 or 10.
@@ -67,8 +74,9 @@ pub extern "C" fn zeppilorn_offer(
 ) -> u32
     ensures { λ r. ⌜ OfferPromise (now (words .entry)) connection units r (now (fields .exit)) (now (words .exit)) ⌝ }
 {
-    let answer = offer(words, connection, units);
-    tell_offered(answer, fields)
+    let told = tell_offered(offer(words, connection, units));
+    *fields = [told[1]];
+    told[0]
 }
 
 // One step: 0, 1, 12 or 11.
@@ -76,6 +84,7 @@ pub extern "C" fn zeppilorn_offer(
 pub extern "C" fn zeppilorn_step(words: &mut [u32], fields: &mut [u32; 5]) -> u32
     ensures { λ r. ⌜ StepPromise (now (words .entry)) r (now (fields .exit)) (now (words .exit)) ⌝ }
 {
-    let answer = step(words);
-    tell_stepped(answer, fields)
+    let told = tell_stepped(step(words));
+    *fields = [told[1], told[2], told[3], told[4], told[5]];
+    told[0]
 }

@@ -3,4 +3,3 @@
 pub mod boxes;
 pub mod plans;
 pub mod runs;
-mod telling;

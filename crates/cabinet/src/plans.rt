@@ -1,6 +1,6 @@
 // Plan files, in bytes that the caller lends. A table is lent as the part of the plan that starts at its offset.
-use super::telling::tell_read;
-use super::telling::tell_written;
+use answers::tell_read;
+use answers::tell_written;
 use plan::reading::read;
 use plan::tables::arrival;
 use plan::tables::connection;
@@ -16,8 +16,18 @@ ghost use Rattle.cabinet.specs.Promises.{ReadPromise, FactorPromise, Con
 pub extern "C" fn zeppilorn_read_plan(plan: &[u8], fields: &mut [u32; 8]) -> u32
     ensures { λ r. ⌜ ReadPromise (now (plan .entry)) r (now (fields .exit)) ⌝ }
 {
-    let answer = read(plan);
-    tell_read(answer, fields)
+    let told = tell_read(read(plan));
+    *fields = [
+        told[1],
+        told[2],
+        told[3],
+        told[4],
+        told[5],
+        told[6],
+        told[7],
+        told[8],
+    ];
+    told[0]
 }
 
 // A factor of a class table, counted from 0; 0 past its end.
@@ -88,6 +98,7 @@ pub extern "C" fn zeppilorn_write_plan(
 ) -> u32
     ensures { λ r. ⌜ WritePromise (lent interval cycle (now (factors .entry)) (now (connections .entry)) (now (arrivals .entry))) (now (plan .entry)) r (now (fields .exit)) (now (plan .exit)) ⌝ }
 {
-    let answer = write(interval, cycle, factors, connections, arrivals, plan);
-    tell_written(answer, fields)
+    let told = tell_written(write(interval, cycle, factors, connections, arrivals, plan));
+    *fields = [told[1]];
+    told[0]
 }

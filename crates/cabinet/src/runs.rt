@@ -1,5 +1,5 @@
 // The whole run of a plan, as text in bytes that the caller lends.
-use super::telling::tell_printed;
+use answers::tell_printed;
 use whole_run::running::run_plan;
 ghost use Rattle.cabinet.specs.Promises.{RunPromise};
 
@@ -9,6 +9,7 @@ ghost use Rattle.cabinet.specs.Promises.{RunPromise};
 pub extern "C" fn zeppilorn_run_plan(plan: &[u8], text: &mut [u8], fields: &mut [u32; 1]) -> u32
     ensures { λ r. ⌜ RunPromise (now (plan .entry)) (now (text .entry)) r (now (fields .exit)) (now (text .exit)) ⌝ }
 {
-    let answer = run_plan(plan, text);
-    tell_printed(answer, fields)
+    let told = tell_printed(run_plan(plan, text));
+    *fields = [told[1]];
+    told[0]
 }

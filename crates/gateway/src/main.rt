@@ -1,9 +1,9 @@
 // The program: a plan on standard input, the lines of its run on standard output. Everything that matters is in `whole_run`.
 use libc::STDIN_FILENO;
 use libc::STDOUT_FILENO;
+use meaning::Printed;
 use whole_run::rooms::plan_room;
 use whole_run::rooms::text_room;
-use whole_run::running::Printed;
 use whole_run::running::run_plan;
 
 // Writes the text; where it cannot be written, standard error says so.
@@ -23,6 +23,6 @@ fn main() {
     let printed = run_plan(&plan[..n], &mut text);
     match printed {
         Printed::Written(size) => put_out(&text, size),
-        Printed::TooShort => os::fail(b"room for the text"),
+        Printed::Refused(why) => os::fail(b"room for the text"),
     }
 }

@@ -10,7 +10,9 @@ use native.Mathlib.Decide.{ℕ-discrete}
 use native.Mathlib.Omega.{arith}
 use Rattle.laws.specs.SumLaws.{sum-zero}
 use Rattle.laws.specs.Tests.{every-at}
+use Rattle.laws.specs.Search.{failsAt}
 use Rattle.laws.specs.Finding.{Least, first-failing-fails, first-failing-holds}
+use Rattle.meaning.specs.declared.Refusal.{Refusal}
 use Rattle.meaning.specs.declared.Admitted.{Admitted}
 use Rattle.meaning.specs.declared.Connection.{Connection}
 use Rattle.meaning.specs.Numbers.{connectionAllowed, mostConnections, Settings, bound}
@@ -19,7 +21,7 @@ use Rattle.meaning.specs.Admission.{term, sumAt, conditionAt, HoldsWithoutEnd, 
 use Rattle.meaning.specs.Box.{Box, connections, sound}
 use Rattle.meaning.specs.Calls.{withNewcomer, admissionAnswer}
 use Rattle.meaning.proofs.Facts.{ConnectionFacts, connection-facts, settings-facts, sound-facts, SettingsFacts}
-use Rattle.guarantees.proofs.Saying.{AdmissionSays, admission-says}
+use Rattle.guarantees.proofs.Saying.{AdmissionRefused, admission-unsound, off-range, table-full, rate-exceeded, fails-first-at, AdmissionSays, admission-says}
 use Rattle.guarantees.proofs.Classes.{bound-least, bound-apart}
 use Rattle.guarantees.proofs.WithoutEnd.{condition-test, all-slots-follow, some-slot-fails}
 
@@ -45,39 +47,45 @@ module _ (box : Box) (c : Connection) where
       all-slots-follow (box .settings) (settings-facts (box .settings) (sound-facts box (says .0) .settings-allowed)) (withNewcomer box c)
       f (says .3) (first-failing-holds _ _ (says .4))
 
-  -- "the t given with 6 is the least that fails".
-  pub least-that-fails : (t : ℕ) → admissionAnswer box c ≡ Admitted.ConditionFails t → Least (conditionAt (box .settings) (withNewcomer box c)) 0 t
+  -- The search answers the least t that fails.
+  search-fails : (t : ℕ) → finiteSearch (box .settings) (withNewcomer box c) ≡ failsAt t →
+      Least (conditionAt (box .settings) (withNewcomer box c)) 0 t
   unfolding finiteSearch
-  least-that-fails t e =
-      let says : AdmissionSays box c (Admitted.ConditionFails t) = rw e at (admission-says box c) in
-      first-failing-fails _ _ t (says .4) .1
+  search-fails t q = first-failing-fails _ _ t q .1
+
+  -- "the t given with 6 is the least that fails".
+  pub least-that-fails : (t : ℕ) → admissionAnswer box c ≡ Admitted.Refused (Refusal.ConditionFails t) → Least (conditionAt (box .settings) (withNewcomer box c)) 0 t
+  least-that-fails t e = go (rw e at (admission-says box c))
+    where
+      go : AdmissionRefused box c (Refusal.ConditionFails t) → Least (conditionAt (box .settings) (withNewcomer box c)) 0 t
+      go (fails-first-at s a f r t q) = search-fails t q
 
   -- With answer 5 some t fails too.
-  pub rate-fails-somewhere : admissionAnswer box c ≡ Admitted.RateExceeded → (t : ℕ) × (conditionAt (box .settings) (withNewcomer box c) t ≡ false)
-  rate-fails-somewhere e =
-      let says : AdmissionSays box c Admitted.RateExceeded = rw e at (admission-says box c) in
-      let f = newcomer-facts box (says .0) c (says .1) in
-      some-slot-fails (box .settings) (settings-facts (box .settings) (sound-facts box (says .0) .settings-allowed)) (withNewcomer box c)
-      f (says .3)
+  pub rate-fails-somewhere : admissionAnswer box c ≡ Admitted.Refused Refusal.RateExceeded → (t : ℕ) × (conditionAt (box .settings) (withNewcomer box c) t ≡ false)
+  rate-fails-somewhere e = go (rw e at (admission-says box c))
+    where
+      go : AdmissionRefused box c Refusal.RateExceeded → (t : ℕ) × (conditionAt (box .settings) (withNewcomer box c) t ≡ false)
+      go (rate-exceeded s a f r) =
+          some-slot-fails (box .settings) (settings-facts (box .settings) (sound-facts box s .settings-allowed)) (withNewcomer box c)
+          (newcomer-facts box s c a) r
 
   -- With the numbers in range and room in the table, a connection is taken exactly when (11) and (12) hold at every t from 0 without end.
   pub taken-exactly-when : sound box ≡ true → connectionAllowed (box .settings) c ≡ true → length (box .standing) < mostConnections →
       (admissionAnswer box c ≡ Admitted.Taken (suc (length (box .standing)))) ↔ HoldsWithoutEnd (box .settings) (withNewcomer box c)
-  taken-exactly-when s a r = (taken-holds (suc (length (box .standing))), λ h. back h (admissionAnswer box c) refl)
+  taken-exactly-when s a r = (taken-holds (suc (length (box .standing))), λ h. back h (admissionAnswer box c) refl (admission-says box c))
     where
-      back : HoldsWithoutEnd (box .settings) (withNewcomer box c) → (q : Admitted) → admissionAnswer box c ≡ q → q ≡ Admitted.Taken (suc (length (box .standing)))
-      back h Admitted.NotSound e = absurd (true≢false (sym s ∙ (rw e at (admission-says box c))))
-      back h Admitted.OffRange e =
-          let says : AdmissionSays box c Admitted.OffRange = rw e at (admission-says box c) in
-          absurd (true≢false (sym a ∙ says .1))
-      back h Admitted.TableFull e =
-          let says : AdmissionSays box c Admitted.TableFull = rw e at (admission-says box c) in
-          absurd (let l : mostConnections ≤ length (box .standing) = leb-true _ _ (says .2) in omega arith)
-      back h Admitted.RateExceeded e = let p = rate-fails-somewhere e in absurd (true≢false (sym (h (p .0)) ∙ p .1))
-      back h (Admitted.ConditionFails t) e = absurd (true≢false (sym (h t) ∙ least-that-fails t e .fails))
-      back h (Admitted.Taken n) e =
-          let says : AdmissionSays box c (Admitted.Taken n) = rw e at (admission-says box c) in
-          ap Admitted.Taken (says .5)
+      refused-not : HoldsWithoutEnd (box .settings) (withNewcomer box c) → (why : Refusal) → admissionAnswer box c ≡ Admitted.Refused why →
+          AdmissionRefused box c why → ⊥
+      refused-not h why e (admission-unsound u) = true≢false (sym s ∙ u)
+      refused-not h why e (off-range u n) = true≢false (sym a ∙ n)
+      refused-not h why e (table-full u n f) = let l : mostConnections ≤ length (box .standing) = leb-true _ _ f in omega arith
+      refused-not h why e (rate-exceeded u n f q) = let p = rate-fails-somewhere e in true≢false (sym (h (p .0)) ∙ p .1)
+      refused-not h why e (fails-first-at u n f q t p) = true≢false (sym (h t) ∙ least-that-fails t e .fails)
+
+      back : HoldsWithoutEnd (box .settings) (withNewcomer box c) → (q : Admitted) → admissionAnswer box c ≡ q → AdmissionSays box c q →
+          q ≡ Admitted.Taken (suc (length (box .standing)))
+      back h (Admitted.Refused why) e says = absurd (refused-not h why e says)
+      back h (Admitted.Taken n) e says = ap Admitted.Taken (says .5)
 
 -- (11) and (12) hold at 0 for every set that keeps the table of numbers.
 holds-at-zero : (set : Settings) → SettingsFacts set → (cs : List Connection) → ((c : Connection) → List·Memᴰ c cs → ConnectionFacts set c) →
@@ -103,10 +111,12 @@ holds-at-zero set f cs facts =
     none = unfold sumAt in sum-zero (term set 0) cs nothing-yet
 
 -- The t given with 6 is at least 1, so a printed t of 0 always means that there is none.
-pub fails-after-zero : (box : Box) (c : Connection) (t : ℕ) → admissionAnswer box c ≡ Admitted.ConditionFails t → 1 ≤ t
-fails-after-zero box c zero e =
-    let says : AdmissionSays box c (Admitted.ConditionFails 0) = rw e at (admission-says box c) in
-    let z = holds-at-zero (box .settings) (settings-facts (box .settings) (sound-facts box (says .0) .settings-allowed)) (withNewcomer box c)
-    (newcomer-facts box (says .0) c (says .1)) in
-    absurd (true≢false (sym z ∙ least-that-fails box c 0 e .fails))
+pub fails-after-zero : (box : Box) (c : Connection) (t : ℕ) → admissionAnswer box c ≡ Admitted.Refused (Refusal.ConditionFails t) → 1 ≤ t
+fails-after-zero box c zero e = absurd (go (rw e at (admission-says box c)))
+  where
+    go : AdmissionRefused box c (Refusal.ConditionFails 0) → ⊥
+    go (fails-first-at s a f r t q) =
+        let set = box .settings in
+        let z = holds-at-zero set (settings-facts set (sound-facts box s .settings-allowed)) (withNewcomer box c) (newcomer-facts box s c a) in
+        true≢false (sym z ∙ least-that-fails box c 0 e .fails)
 fails-after-zero box c (suc t) e = omega arith

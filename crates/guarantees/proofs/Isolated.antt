@@ -9,10 +9,12 @@ use borrow.Author.Tests.{not-true, eq-eqb, ne-eqb}
 use native.Mathlib.Decide.{ℕ-discrete}
 use Rattle.laws.specs.Tests.{within, within-facts, every}
 use Rattle.laws.specs.Places.{getD-last}
+use Rattle.meaning.specs.declared.Refusal.{Refusal}
 use Rattle.meaning.specs.declared.Admitted.{Admitted}
 use Rattle.meaning.specs.declared.Offered.{Offered}
 use Rattle.meaning.specs.declared.Stepped.{Stepped}
 use Rattle.meaning.specs.declared.Connection.{Connection}
+use Rattle.meaning.specs.Answers.{refusalNumber, refusal, offered}
 use Rattle.meaning.specs.Numbers.{Settings, settingsAllowed, connectionAllowed, mostConnections}
 use Rattle.meaning.specs.declared.Allowance.{Allowance}
 use Rattle.meaning.specs.Envelope.{full, conforms, charged}
@@ -24,7 +26,7 @@ use Rattle.meaning.specs.Step.{stepAnswer, moved, afterStep}
 use Rattle.meaning.proofs.KeepsSound.{new-box-sound}
 use Rattle.guarantees.specs.Runs.{Call, admit, offer, step, toOffer, reply, after, Event, trace}
 use Rattle.guarantees.specs.Isolation.{Ask, admission, offering, askOf, asked, serialAside, answerTo, told, isTen, neverTen}
-use Rattle.guarantees.proofs.Saying.{OfferSays, offer-says}
+use Rattle.guarantees.proofs.Saying.{offer-unsound, no-connection, wrong-length, not-fitting, store-full, OfferSays, offer-says}
 use Rattle.guarantees.proofs.Moves.{move-grows, call-moves, accepting}
 use Rattle.guarantees.proofs.Ahead.{connections-length}
 use Rattle.guarantees.proofs.Known.{offer-connections}
@@ -43,20 +45,16 @@ view n box = record { contracts = connections box; meter = allowance box n }
 -- The answer to an admission, by the view.
 unfoldable pub admittedBy : Settings → View → Connection → Admitted
 admittedBy set v c =
-    cond (not (connectionAllowed set c)) Admitted.OffRange
-    (cond (leb mostConnections (length (v .contracts))) Admitted.TableFull
-    (cond (not (rateHolds set (v .contracts ++ (c ∷ [])))) Admitted.RateExceeded
+    cond (not (connectionAllowed set c)) (Admitted.Refused Refusal.ConnectionOffRange)
+    (cond (leb mostConnections (length (v .contracts))) (Admitted.Refused Refusal.TableFull)
+    (cond (not (rateHolds set (v .contracts ++ (c ∷ [])))) (Admitted.Refused Refusal.RateExceeded)
     (searchAnswer (suc (length (v .contracts))) (finiteSearch set (v .contracts ++ (c ∷ []))))))
 
 -- The view after that answer.
 unfoldable pub viewAdmitted : ℕ → View → Connection → Admitted → View
 viewAdmitted n v c (Admitted.Taken k) =
     record { contracts = v .contracts ++ (c ∷ []); meter = cond (eqb (n - 1) (length (v .contracts))) (full c) (v .meter) }
-viewAdmitted n v c Admitted.NotSound = v
-viewAdmitted n v c Admitted.OffRange = v
-viewAdmitted n v c Admitted.TableFull = v
-viewAdmitted n v c Admitted.RateExceeded = v
-viewAdmitted n v c (Admitted.ConditionFails t) = v
+viewAdmitted n v c (Admitted.Refused why) = v
 
 -- The contract of connection n.
 abbrev pub mine : ℕ → View → Connection
@@ -65,19 +63,15 @@ mine n v = getD (v .contracts) (n - 1) noConnection
 -- The answer to an offer of connection n, by the view, if the store is not full.
 unfoldable pub offeredBy : ℕ → View → ℕ → ℕ → Offered
 offeredBy n v slot units =
-    cond (not (within 1 n (length (v .contracts)))) Offered.NoConnection
-    (cond (not (within 1 units (mine n v .longest))) Offered.WrongLength
-    (cond (not (conforms (mine n v) (v .meter) slot)) Offered.NotFitting
+    cond (not (within 1 n (length (v .contracts)))) (Offered.Refused Refusal.NoConnection)
+    (cond (not (within 1 units (mine n v .longest))) (Offered.Refused Refusal.WrongLength)
+    (cond (not (conforms (mine n v) (v .meter) slot)) (Offered.Refused Refusal.NotFitting)
     (Offered.Accepted 0)))
 
 -- The view after that answer.
 unfoldable pub viewOffered : ℕ → View → ℕ → Offered → View
 viewOffered n v slot (Offered.Accepted serial) = record { contracts = v .contracts; meter = charged (mine n v) (v .meter) slot }
-viewOffered n v slot Offered.NotSound = v
-viewOffered n v slot Offered.NoConnection = v
-viewOffered n v slot Offered.WrongLength = v
-viewOffered n v slot Offered.NotFitting = v
-viewOffered n v slot Offered.StoreFull = v
+viewOffered n v slot (Offered.Refused why) = v
 
 -- What connection n is told, by its view and what is asked.
 unfoldable pub replay : Settings → ℕ → View → List Ask → List Offered
@@ -105,32 +99,24 @@ module _ (n : ℕ) (h : 1 ≤ n) where
       ap (λ l. cond (eqb (n - 1) l) (full c) (getD (map (λ (s : Standing). s .allowance) (box .standing)) (n - 1) (full noConnection)))
       (length-map (box .standing) (λ s. s .allowance) ∙ sym (connections-length box))) in
       λ i. record { contracts = contracts i; meter = meter i }
-  view-admitted box c Admitted.NotSound = refl
-  view-admitted box c Admitted.OffRange = refl
-  view-admitted box c Admitted.TableFull = refl
-  view-admitted box c Admitted.RateExceeded = refl
-  view-admitted box c (Admitted.ConditionFails t) = refl
+  view-admitted box c (Admitted.Refused why) = refl
 
   -- A sound box that does not answer 10 answers an offer by the view, serials aside.
   offered-same : (box : Box) (units : ℕ) (o : Offered) → sound box ≡ true → isTen (toOffer o) ≡ false → OfferSays box n units o →
       serialAside o ≡ offeredBy n (view n box) (box .counter) units
-  unfolding serialAside offeredBy view stands connection isTen
-  offered-same box units Offered.NotSound s t says = absurd (true≢false (sym s ∙ says))
-  offered-same box units Offered.NoConnection s t says = rw (connections-length box, says .1)
-  offered-same box units Offered.WrongLength s t says = rw (connections-length box, says .1, says .2)
-  offered-same box units Offered.NotFitting s t says = rw (connections-length box, says .1, says .2, says .3)
-  offered-same box units Offered.StoreFull s t says = absurd (true≢false t)
+  unfolding serialAside offeredBy view stands connection isTen offered refusal refusalNumber
+  offered-same box units (Offered.Refused why) s t (offer-unsound u) = absurd (true≢false (sym s ∙ u))
+  offered-same box units (Offered.Refused why) s t (no-connection u a) = rw (connections-length box, a)
+  offered-same box units (Offered.Refused why) s t (wrong-length u a l) = rw (connections-length box, a, l)
+  offered-same box units (Offered.Refused why) s t (not-fitting u a l f) = rw (connections-length box, a, l, f)
+  offered-same box units (Offered.Refused why) s t (store-full u a l f w) = absurd (true≢false t)
   offered-same box units (Offered.Accepted serial) s t says = rw (connections-length box, says .1, says .2, says .3)
 
   -- Its own offers change the view by what they are told.
   view-offered : (box : Box) (units : ℕ) (o : Offered) → OfferSays box n units o →
       view n (afterOffer box n units o) ≡ viewOffered n (view n box) (box .counter) (serialAside o)
   unfolding viewOffered view serialAside connection
-  view-offered box units Offered.NotSound says = unfold afterOffer in refl
-  view-offered box units Offered.NoConnection says = unfold afterOffer in refl
-  view-offered box units Offered.WrongLength says = unfold afterOffer in refl
-  view-offered box units Offered.NotFitting says = unfold afterOffer in refl
-  view-offered box units Offered.StoreFull says = unfold afterOffer in refl
+  view-offered box units (Offered.Refused why) says = unfold afterOffer in refl
   view-offered box units (Offered.Accepted serial) says =
       let r = within-facts 1 n (length (box .standing)) (unfold stands in says .1) in
       let contracts = offer-connections box n units in
@@ -142,11 +128,7 @@ module _ (n : ℕ) (h : 1 ≤ n) where
   -- The offers of others do not change it.
   view-other : (box : Box) (m units : ℕ) → (m ≡ n → ⊥) → (o : Offered) → OfferSays box m units o → view n (afterOffer box m units o) ≡ view n box
   unfolding view
-  view-other box m units ne Offered.NotSound says = unfold afterOffer in refl
-  view-other box m units ne Offered.NoConnection says = unfold afterOffer in refl
-  view-other box m units ne Offered.WrongLength says = unfold afterOffer in refl
-  view-other box m units ne Offered.NotFitting says = unfold afterOffer in refl
-  view-other box m units ne Offered.StoreFull says = unfold afterOffer in refl
+  view-other box m units ne (Offered.Refused why) says = unfold afterOffer in refl
   view-other box m units ne (Offered.Accepted serial) says =
       let r = within-facts 1 m (length (box .standing)) (unfold stands in says .1) in
       let contracts = offer-connections box m units in
@@ -159,9 +141,7 @@ module _ (n : ℕ) (h : 1 ≤ n) where
   view-step box Stepped.Idle = refl
   view-step box (Stepped.Sending serial left) = refl
   view-step box (Stepped.Departed serial connection arrival departure) = refl
-  view-step box Stepped.NotSound = refl
-  view-step box Stepped.CounterEnded = refl
-  view-step box Stepped.TurnBlocked = refl
+  view-step box (Stepped.Refused why) = refl
 
   -- One call, and what is told after it.
   module _ (box : Box) (s : sound box ≡ true) (es : List Event) where

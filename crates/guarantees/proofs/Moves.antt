@@ -59,11 +59,7 @@ module _ (box : Box) (H : List Packet) (G : List Departure) where
   admission-moves : (c : Connection) (a : Admitted) → admissionAnswer box c ≡ a → Move box H G (afterAdmission box c a) (H ++ []) (G ++ [])
   unfolding afterAdmission
   admission-moves c (Admitted.Taken n) e = rw (append-nil H, append-nil G) (joins c n e)
-  admission-moves c Admitted.NotSound e = rw (append-nil H, append-nil G) refused
-  admission-moves c Admitted.OffRange e = rw (append-nil H, append-nil G) refused
-  admission-moves c Admitted.TableFull e = rw (append-nil H, append-nil G) refused
-  admission-moves c Admitted.RateExceeded e = rw (append-nil H, append-nil G) refused
-  admission-moves c (Admitted.ConditionFails t) e = rw (append-nil H, append-nil G) refused
+  admission-moves c (Admitted.Refused why) e = rw (append-nil H, append-nil G) refused
 
   -- An offer is accepted or refused.
   offer-moves : (n units : ℕ) (a : Offered) → OfferSays box n units a →
@@ -71,11 +67,7 @@ module _ (box : Box) (H : List Packet) (G : List Departure) where
   unfolding offerTaken
   offer-moves n units (Offered.Accepted serial) s =
       rw (append-nil G, s .5) (accepts n units (s .0, s .1, s .2, s .3, s .4, refl))
-  offer-moves n units Offered.NotSound s = unfold afterOffer in rw (append-nil H, append-nil G) refused
-  offer-moves n units Offered.NoConnection s = unfold afterOffer in rw (append-nil H, append-nil G) refused
-  offer-moves n units Offered.WrongLength s = unfold afterOffer in rw (append-nil H, append-nil G) refused
-  offer-moves n units Offered.NotFitting s = unfold afterOffer in rw (append-nil H, append-nil G) refused
-  offer-moves n units Offered.StoreFull s = unfold afterOffer in rw (append-nil H, append-nil G) refused
+  offer-moves n units (Offered.Refused why) s = unfold afterOffer in rw (append-nil H, append-nil G) refused
 
   -- A step idles, sends, reports a departure or is refused.
   step-moves : (a : Stepped) → StepSays box a → Move box H G (afterStep box a) (H ++ []) (G ++ stepLeft a)
@@ -84,9 +76,7 @@ module _ (box : Box) (H : List Packet) (G : List Departure) where
   step-moves (Stepped.Sending serial left) s = rw (append-nil H, append-nil G) (sends (s .0) (s .1) (s .2) (s .3) (s .4))
   step-moves (Stepped.Departed serial connection arrival departure) s =
       rw (append-nil H, s .5, s .6, s .7, s .8) (departs (s .0) (s .1) (s .2) (s .3) (s .4))
-  step-moves Stepped.NotSound s = rw (append-nil H, append-nil G) refused
-  step-moves Stepped.CounterEnded s = rw (append-nil H, append-nil G) refused
-  step-moves Stepped.TurnBlocked s = rw (append-nil H, append-nil G) refused
+  step-moves (Stepped.Refused why) s = rw (append-nil H, append-nil G) refused
 
   -- A call is a move.
   pub call-moves : (c : Call) → Move box H G (after box c) (H ++ packetTaken (box .counter) c (reply box c)) (G ++ packetLeft (reply box c))

@@ -6,6 +6,7 @@ use lib.Dec.{leb}
 use lib.ListN.{length}
 use Rattle.laws.specs.Tests.{within}
 use Rattle.laws.specs.Search.{Search, failsAt, holds}
+use Rattle.meaning.specs.declared.Refusal.{Refusal}
 use Rattle.meaning.specs.declared.Admitted.{Admitted}
 use Rattle.meaning.specs.declared.Offered.{Offered}
 use Rattle.meaning.specs.declared.Stepped.{Stepped}
@@ -19,18 +20,21 @@ use Rattle.meaning.specs.Calls.{withNewcomer, searchAnswer, admissionAnswer, al
 use Rattle.meaning.specs.Step.{linkTaken, queuesTaken, sentAnswer, turnDue, stepAnswer}
 use Rattle.meaning.specs.Queues.{tagZeroWaits}
 
+-- What a refusal of an admission says.
+pub data AdmissionRefused (box : Box) (c : Connection) : Refusal → Type 0 where
+  admission-unsound : sound box ≡ false → AdmissionRefused box c Refusal.NotSound
+  off-range : sound box ≡ true → connectionAllowed (box .settings) c ≡ false → AdmissionRefused box c Refusal.ConnectionOffRange
+  table-full : sound box ≡ true → connectionAllowed (box .settings) c ≡ true → leb mostConnections (length (box .standing)) ≡ true →
+      AdmissionRefused box c Refusal.TableFull
+  rate-exceeded : sound box ≡ true → connectionAllowed (box .settings) c ≡ true → leb mostConnections (length (box .standing)) ≡ false →
+      rateHolds (box .settings) (withNewcomer box c) ≡ false → AdmissionRefused box c Refusal.RateExceeded
+  fails-first-at : sound box ≡ true → connectionAllowed (box .settings) c ≡ true → leb mostConnections (length (box .standing)) ≡ false →
+      rateHolds (box .settings) (withNewcomer box c) ≡ true → (t : ℕ) → finiteSearch (box .settings) (withNewcomer box c) ≡ failsAt t →
+      AdmissionRefused box c (Refusal.ConditionFails t)
+
 -- What an answer to an admission says.
 abbrev pub AdmissionSays : Box → Connection → Admitted → Type 0
-AdmissionSays box c Admitted.NotSound = sound box ≡ false
-AdmissionSays box c Admitted.OffRange = (sound box ≡ true) × (connectionAllowed (box .settings) c ≡ false)
-AdmissionSays box c Admitted.TableFull =
-    (sound box ≡ true) × (connectionAllowed (box .settings) c ≡ true) × (leb mostConnections (length (box .standing)) ≡ true)
-AdmissionSays box c Admitted.RateExceeded =
-    (sound box ≡ true) × (connectionAllowed (box .settings) c ≡ true) × (leb mostConnections (length (box .standing)) ≡ false) ×
-    (rateHolds (box .settings) (withNewcomer box c) ≡ false)
-AdmissionSays box c (Admitted.ConditionFails t) =
-    (sound box ≡ true) × (connectionAllowed (box .settings) c ≡ true) × (leb mostConnections (length (box .standing)) ≡ false) ×
-    (rateHolds (box .settings) (withNewcomer box c) ≡ true) × (finiteSearch (box .settings) (withNewcomer box c) ≡ failsAt t)
+AdmissionSays box c (Admitted.Refused why) = AdmissionRefused box c why
 AdmissionSays box c (Admitted.Taken n) =
     (sound box ≡ true) × (connectionAllowed (box .settings) c ≡ true) × (leb mostConnections (length (box .standing)) ≡ false) ×
     (rateHolds (box .settings) (withNewcomer box c) ≡ true) × (finiteSearch (box .settings) (withNewcomer box c) ≡ holds) ×
@@ -46,27 +50,33 @@ admission-says box c =
     go : (s : Bool) → sound box ≡ s → (a : Bool) → connectionAllowed (box .settings) c ≡ a →
         (f : Bool) → leb mostConnections (length (box .standing)) ≡ f → (r : Bool) → rateHolds (box .settings) (withNewcomer box c) ≡ r →
         (q : Search) → finiteSearch (box .settings) (withNewcomer box c) ≡ q →
-        AdmissionSays box c (cond (not s) Admitted.NotSound (cond (not a) Admitted.OffRange (cond f Admitted.TableFull
-        (cond (not r) Admitted.RateExceeded (searchAnswer (suc (length (box .standing))) q)))))
-    go false s a a' f f' r r' q q' = s
-    go true s false a f f' r r' q q' = (s, a)
-    go true s true a true f r r' q q' = (s, a, f)
-    go true s true a false f false r q q' = (s, a, f, r)
-    go true s true a false f true r (failsAt t) q = (s, a, f, r, q)
+        AdmissionSays box c
+        (cond (not s) (Admitted.Refused Refusal.NotSound)
+        (cond (not a) (Admitted.Refused Refusal.ConnectionOffRange)
+        (cond f (Admitted.Refused Refusal.TableFull)
+        (cond (not r) (Admitted.Refused Refusal.RateExceeded) (searchAnswer (suc (length (box .standing))) q)))))
+    go false s a a' f f' r r' q q' = admission-unsound s
+    go true s false a f f' r r' q q' = off-range s a
+    go true s true a true f r r' q q' = table-full s a f
+    go true s true a false f false r q q' = rate-exceeded s a f r
+    go true s true a false f true r (failsAt t) q = fails-first-at s a f r t q
     go true s true a false f true r holds q = (s, a, f, r, q, refl)
+
+-- What a refusal of an offer says.
+pub data OfferRefused (box : Box) (n units : ℕ) : Refusal → Type 0 where
+  offer-unsound : sound box ≡ false → OfferRefused box n units Refusal.NotSound
+  no-connection : sound box ≡ true → stands box n ≡ false → OfferRefused box n units Refusal.NoConnection
+  wrong-length : sound box ≡ true → stands box n ≡ true → within 1 units (connection box n .longest) ≡ false →
+      OfferRefused box n units Refusal.WrongLength
+  not-fitting : sound box ≡ true → stands box n ≡ true → within 1 units (connection box n .longest) ≡ true →
+      conforms (connection box n) (allowance box n) (box .counter) ≡ false → OfferRefused box n units Refusal.NotFitting
+  store-full : sound box ≡ true → stands box n ≡ true → within 1 units (connection box n .longest) ≡ true →
+      conforms (connection box n) (allowance box n) (box .counter) ≡ true → leb mostWaiting (length (waiting box)) ≡ true →
+      OfferRefused box n units Refusal.StoreFull
 
 -- What an answer to an offer says.
 abbrev pub OfferSays : Box → ℕ → ℕ → Offered → Type 0
-OfferSays box n units Offered.NotSound = sound box ≡ false
-OfferSays box n units Offered.NoConnection = (sound box ≡ true) × (stands box n ≡ false)
-OfferSays box n units Offered.WrongLength =
-    (sound box ≡ true) × (stands box n ≡ true) × (within 1 units (connection box n .longest) ≡ false)
-OfferSays box n units Offered.NotFitting =
-    (sound box ≡ true) × (stands box n ≡ true) × (within 1 units (connection box n .longest) ≡ true) ×
-    (conforms (connection box n) (allowance box n) (box .counter) ≡ false)
-OfferSays box n units Offered.StoreFull =
-    (sound box ≡ true) × (stands box n ≡ true) × (within 1 units (connection box n .longest) ≡ true) ×
-    (conforms (connection box n) (allowance box n) (box .counter) ≡ true) × (leb mostWaiting (length (waiting box)) ≡ true)
+OfferSays box n units (Offered.Refused why) = OfferRefused box n units why
 OfferSays box n units (Offered.Accepted serial) =
     (sound box ≡ true) × (stands box n ≡ true) × (within 1 units (connection box n .longest) ≡ true) ×
     (conforms (connection box n) (allowance box n) (box .counter) ≡ true) × (leb mostWaiting (length (waiting box)) ≡ false) ×
@@ -82,13 +92,17 @@ offer-says box n units =
     go : (s : Bool) → sound box ≡ s → (a : Bool) → stands box n ≡ a → (f : Bool) → within 1 units (connection box n .longest) ≡ f →
         (r : Bool) → conforms (connection box n) (allowance box n) (box .counter) ≡ r →
         (q : Bool) → leb mostWaiting (length (waiting box)) ≡ q →
-        OfferSays box n units (cond (not s) Offered.NotSound (cond (not a) Offered.NoConnection (cond (not f) Offered.WrongLength
-        (cond (not r) Offered.NotFitting (cond q Offered.StoreFull (Offered.Accepted (suc (box .accepted))))))))
-    go false s a a' f f' r r' q q' = s
-    go true s false a f f' r r' q q' = (s, a)
-    go true s true a false f r r' q q' = (s, a, f)
-    go true s true a true f false r q q' = (s, a, f, r)
-    go true s true a true f true r true q = (s, a, f, r, q)
+        OfferSays box n units
+        (cond (not s) (Offered.Refused Refusal.NotSound)
+        (cond (not a) (Offered.Refused Refusal.NoConnection)
+        (cond (not f) (Offered.Refused Refusal.WrongLength)
+        (cond (not r) (Offered.Refused Refusal.NotFitting)
+        (cond q (Offered.Refused Refusal.StoreFull) (Offered.Accepted (suc (box .accepted))))))))
+    go false s a a' f f' r r' q q' = offer-unsound s
+    go true s false a f f' r r' q q' = no-connection s a
+    go true s true a false f r r' q q' = wrong-length s a f
+    go true s true a true f false r q q' = not-fitting s a f r
+    go true s true a true f true r true q = store-full s a f r q
     go true s true a true f true r false q = (s, a, f, r, q, refl)
 
 -- A step that is not refused.
@@ -97,12 +111,16 @@ pub record StepGoes (box : Box) : Type 0 where
   pub not-ended : leb lastSlot (box .counter) ≡ false
   pub not-blocked : turnDue box && tagZeroWaits (queuesTaken (box .link) (box .queues)) ≡ false
 
+-- What a refusal of a step says.
+pub data StepRefused (box : Box) : Refusal → Type 0 where
+  step-unsound : sound box ≡ false → StepRefused box Refusal.NotSound
+  counter-ended : sound box ≡ true → leb lastSlot (box .counter) ≡ true → StepRefused box Refusal.CounterEnded
+  turn-blocked : sound box ≡ true → leb lastSlot (box .counter) ≡ false →
+      turnDue box && tagZeroWaits (queuesTaken (box .link) (box .queues)) ≡ true → StepRefused box Refusal.TurnBlocked
+
 -- What an answer to a step says.
 abbrev pub StepSays : Box → Stepped → Type 0
-StepSays box Stepped.NotSound = sound box ≡ false
-StepSays box Stepped.CounterEnded = (sound box ≡ true) × (leb lastSlot (box .counter) ≡ true)
-StepSays box Stepped.TurnBlocked =
-    (sound box ≡ true) × (leb lastSlot (box .counter) ≡ false) × (turnDue box && tagZeroWaits (queuesTaken (box .link) (box .queues)) ≡ true)
+StepSays box (Stepped.Refused why) = StepRefused box why
 StepSays box Stepped.Idle = StepGoes box × (linkTaken (box .link) (box .queues) ≡ free)
 StepSays box (Stepped.Sending serial left) =
     StepGoes box × (p : Packet) × (units : ℕ) × (linkTaken (box .link) (box .queues) ≡ carries p units) × (leb units 1 ≡ false)
@@ -125,10 +143,13 @@ step-says box =
     go : (s : Bool) → sound box ≡ s → (a : Bool) → leb lastSlot (box .counter) ≡ a →
         (f : Bool) → turnDue box && tagZeroWaits (queuesTaken (box .link) (box .queues)) ≡ f →
         (l : Link) → linkTaken (box .link) (box .queues) ≡ l →
-        StepSays box (cond (not s) Stepped.NotSound (cond a Stepped.CounterEnded (cond f Stepped.TurnBlocked (sentAnswer (suc (box .counter)) l))))
-    go false s a a' f f' l l' = s
-    go true s true a f f' l l' = (s, a)
-    go true s false a true f l l' = (s, a, f)
+        StepSays box
+        (cond (not s) (Stepped.Refused Refusal.NotSound)
+        (cond a (Stepped.Refused Refusal.CounterEnded)
+        (cond f (Stepped.Refused Refusal.TurnBlocked) (sentAnswer (suc (box .counter)) l))))
+    go false s a a' f f' l l' = step-unsound s
+    go true s true a f f' l l' = counter-ended s a
+    go true s false a true f l l' = turn-blocked s a f
     go true s false a false f free l = (record { was-sound = s; not-ended = a; not-blocked = f }, l)
     go true s false a false f (carries p units) l =
         sent (record { was-sound = s; not-ended = a; not-blocked = f }) p units l (leb units 1) refl

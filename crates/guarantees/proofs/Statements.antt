@@ -11,6 +11,7 @@ use native.Mathlib.Omega.{arith}
 use Rattle.laws.specs.Tests.{within, within-facts, within-test, bool-cases}
 use Rattle.laws.specs.Sums.{sumOf}
 use Rattle.laws.specs.SumLaws.{given, given-true, given-false, sum-member, sum-one, sum-zero, sum-found}
+use Rattle.meaning.specs.declared.Refusal.{Refusal}
 use Rattle.meaning.specs.declared.Offered.{Offered}
 use Rattle.meaning.specs.Numbers.{Settings, settingsAllowed, mostWaiting}
 use Rattle.meaning.specs.Envelope.{mayHave, fits, conforms}
@@ -20,7 +21,7 @@ use Rattle.meaning.specs.Calls.{newBox, allowance, offerAnswer}
 use Rattle.meaning.proofs.Facts.{sound-facts}
 use Rattle.meaning.proofs.KeepsSound.{new-box-sound}
 use Rattle.guarantees.specs.Runs.{Call, Departure, inOrder, slotsOf, WithinEnvelope, timesAmong, timesDeparted, dueBy, boxOf, acceptedOf, departedOf, countFrom, InBox}
-use Rattle.guarantees.proofs.Saying.{OfferSays, offer-says}
+use Rattle.guarantees.proofs.Saying.{OfferRefused, offer-unsound, no-connection, wrong-length, not-fitting, store-full, OfferSays, offer-says}
 use Rattle.guarantees.proofs.Effects.{connection-member}
 use Rattle.guarantees.proofs.Metered.{meter-answers}
 use Rattle.guarantees.proofs.OnTime.{in-box-known}
@@ -47,7 +48,7 @@ marks-self s c a =
 
 -- A sound box gives 9 to an offer of permitted length whose connection has no credit left.
 nine-given : (box : Box) (n units : ℕ) → sound box ≡ true → stands box n ≡ true → within 1 units (connection box n .longest) ≡ true →
-    conforms (connection box n) (allowance box n) (box .counter) ≡ false → offerAnswer box n units ≡ Offered.NotFitting
+    conforms (connection box n) (allowance box n) (box .counter) ≡ false → offerAnswer box n units ≡ Offered.Refused Refusal.NotFitting
 unfolding offerAnswer
 nine-given box n units a b c d = rw (a, b, c, d)
 
@@ -90,7 +91,7 @@ module _ (set : Settings) (allowed : settingsAllowed set ≡ true) (calls : List
       within 1 units (connection (boxOf set calls) n .longest) ≡ true →
       fits (mayHave (connection (boxOf set calls) n)) (slotsOf n (acceptedOf set calls)) (boxOf set calls .counter) ≡ true →
       (offerAnswer (boxOf set calls) n units ≡ Offered.Accepted (suc (boxOf set calls .accepted))) ⊎
-      ((offerAnswer (boxOf set calls) n units ≡ Offered.StoreFull) × (length (waiting (boxOf set calls)) ≡ mostWaiting))
+      ((offerAnswer (boxOf set calls) n units ≡ Offered.Refused Refusal.StoreFull) × (length (waiting (boxOf set calls)) ≡ mostWaiting))
   turned-away-only-when-full n units s l f = go (offerAnswer box n units) refl (offer-says box n units)
     where
       box : Box
@@ -100,13 +101,13 @@ module _ (set : Settings) (allowed : settingsAllowed set ≡ true) (calls : List
       conforming = record-answers-stretches n s ∙ f
 
       go : (o : Offered) → offerAnswer box n units ≡ o → OfferSays box n units o →
-          (o ≡ Offered.Accepted (suc (box .accepted))) ⊎ ((o ≡ Offered.StoreFull) × (length (waiting box) ≡ mostWaiting))
-      go Offered.NotSound e says = absurd (true≢false (sym every-run-sound ∙ says))
-      go Offered.NoConnection e says = absurd (true≢false (sym s ∙ says .1))
-      go Offered.WrongLength e says = absurd (true≢false (sym l ∙ says .2))
-      go Offered.NotFitting e says = absurd (true≢false (sym conforming ∙ says .3))
-      go Offered.StoreFull e says =
-          let w : mostWaiting ≤ length (waiting box) = leb-true _ _ (says .4) in
+          (o ≡ Offered.Accepted (suc (box .accepted))) ⊎ ((o ≡ Offered.Refused Refusal.StoreFull) × (length (waiting box) ≡ mostWaiting))
+      go (Offered.Refused why) e (offer-unsound u) = absurd (true≢false (sym every-run-sound ∙ u))
+      go (Offered.Refused why) e (no-connection u a) = absurd (true≢false (sym s ∙ a))
+      go (Offered.Refused why) e (wrong-length u a w) = absurd (true≢false (sym l ∙ w))
+      go (Offered.Refused why) e (not-fitting u a w c) = absurd (true≢false (sym conforming ∙ c))
+      go (Offered.Refused why) e (store-full u a w c q) =
+          let k : mostWaiting ≤ length (waiting box) = leb-true _ _ q in
           let m = sound-facts box every-run-sound .waiting-most in
           inr (refl, omega arith)
       go (Offered.Accepted serial) e says = inl (ap Offered.Accepted (says .5))
@@ -114,19 +115,20 @@ module _ (set : Settings) (allowed : settingsAllowed set ≡ true) (calls : List
   -- Answer 9 is given to an offer of permitted length exactly when the packet does not fit the envelope.
   pub nine-exactly-when-it-does-not-fit : (n units : ℕ) → stands (boxOf set calls) n ≡ true →
       within 1 units (connection (boxOf set calls) n .longest) ≡ true →
-      (offerAnswer (boxOf set calls) n units ≡ Offered.NotFitting) ↔
+      (offerAnswer (boxOf set calls) n units ≡ Offered.Refused Refusal.NotFitting) ↔
       (fits (mayHave (connection (boxOf set calls) n)) (slotsOf n (acceptedOf set calls)) (boxOf set calls .counter) ≡ false)
   nine-exactly-when-it-does-not-fit n units s l = (forth, back)
     where
       box : Box
       box = boxOf set calls
 
-      forth : offerAnswer box n units ≡ Offered.NotFitting → fits (mayHave (connection box n)) (slotsOf n (acceptedOf set calls)) (box .counter) ≡ false
-      forth e =
-          let says : OfferSays box n units Offered.NotFitting = rw e at (offer-says box n units) in
-          sym (record-answers-stretches n s) ∙ says .3
+      forth : offerAnswer box n units ≡ Offered.Refused Refusal.NotFitting → fits (mayHave (connection box n)) (slotsOf n (acceptedOf set calls)) (box .counter) ≡ false
+      forth e = sym (record-answers-stretches n s) ∙ not-conforming (rw e at (offer-says box n units))
+        where
+          not-conforming : OfferRefused box n units Refusal.NotFitting → conforms (connection box n) (allowance box n) (box .counter) ≡ false
+          not-conforming (not-fitting u a w c) = c
 
-      back : fits (mayHave (connection box n)) (slotsOf n (acceptedOf set calls)) (box .counter) ≡ false → offerAnswer box n units ≡ Offered.NotFitting
+      back : fits (mayHave (connection box n)) (slotsOf n (acceptedOf set calls)) (box .counter) ≡ false → offerAnswer box n units ≡ Offered.Refused Refusal.NotFitting
       back f = nine-given box n units every-run-sound s l (record-answers-stretches n s ∙ f)
 
   -- At most once: every accepted packet is exactly once among waiting, on the link and departed.

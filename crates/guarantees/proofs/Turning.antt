@@ -10,6 +10,7 @@ use native.Mathlib.Nat.{div-add-mod', lt-div-mul-add}
 use native.Mathlib.Omega.{arith}
 use Rattle.laws.specs.Tests.{every, every-at}
 use Rattle.laws.specs.Turns.{turn-due}
+use Rattle.meaning.specs.declared.Refusal.{Refusal}
 use Rattle.meaning.specs.declared.Stepped.{Stepped}
 use Rattle.meaning.specs.Numbers.{Settings, bound, settingsAllowed, lastSlot}
 use Rattle.meaning.specs.Queues.{turnAt, rank, withoutLowestHead, tagZeroWaits}
@@ -18,7 +19,7 @@ use Rattle.meaning.specs.Box.{Box, Link, free, carries, connection, waiting, ra
 use Rattle.meaning.specs.Step.{queuesTaken, turnDue, stepAnswer, moved, afterStep}
 use Rattle.meaning.proofs.Facts.{SettingsFacts, settings-facts, sound-facts}
 use Rattle.guarantees.specs.Runs.{Call, dueBy, boxOf}
-use Rattle.guarantees.proofs.Saying.{StepSays, step-says}
+use Rattle.guarantees.proofs.Saying.{StepRefused, step-unsound, counter-ended, turn-blocked, StepSays, step-says}
 use Rattle.guarantees.proofs.Statements.{every-run-sound, in-the-box-before-bound}
 
 -- A packet that is in tag 0 once the next one is taken waits, and was in tag 0.
@@ -55,16 +56,18 @@ tag-zero-is-late box f t p r =
 
 module _ (set : Settings) (allowed : settingsAllowed set ≡ true) (calls : List Call) where
   -- Answer 11 is never given in a run.
-  pub turn-never-blocked : stepAnswer (boxOf set calls) ≡ Stepped.TurnBlocked → ⊥
-  turn-never-blocked e =
-      let box = boxOf set calls in
-      let says : StepSays box Stepped.TurnBlocked = rw e at (step-says box) in
-      let t = and-eq-true-iff (turnDue box) (tagZeroWaits (queuesTaken (box .link) (box .queues))) .0 (says .2) in
-      let f = sound-facts box (says .0) in
-      let p = left-in-tag-zero box (box .queues) (box .link) (f .in-their-queues) (t .1) in
-      let l = tag-zero-is-late box (settings-facts (box .settings) (f .settings-allowed)) (t .0) (p .0) (p .2) in
-      let b = in-the-box-before-bound set allowed calls (p .0) (inl (unfold waiting in p .1)) in
-      omega arith
+  pub turn-never-blocked : stepAnswer (boxOf set calls) ≡ Stepped.Refused Refusal.TurnBlocked → ⊥
+  turn-never-blocked e = go (rw e at (step-says (boxOf set calls)))
+    where
+      go : StepRefused (boxOf set calls) Refusal.TurnBlocked → ⊥
+      go (turn-blocked s n d) =
+          let box = boxOf set calls in
+          let t = and-eq-true-iff (turnDue box) (tagZeroWaits (queuesTaken (box .link) (box .queues))) .0 d in
+          let f = sound-facts box s in
+          let p = left-in-tag-zero box (box .queues) (box .link) (f .in-their-queues) (t .1) in
+          let l = tag-zero-is-late box (settings-facts (box .settings) (f .settings-allowed)) (t .0) (p .0) (p .2) in
+          let b = in-the-box-before-bound set allowed calls (p .0) (inl (unfold waiting in p .1)) in
+          omega arith
 
   -- A step of a run raises the counter until it ends: no other answer refuses it.
   pub step-goes-on : boxOf set calls .counter < lastSlot → afterStep (boxOf set calls) (stepAnswer (boxOf set calls)) .counter ≡ suc (boxOf set calls .counter)
@@ -77,6 +80,6 @@ module _ (set : Settings) (allowed : settingsAllowed set ≡ true) (calls : List
       go Stepped.Idle e s = unfold afterStep moved in refl
       go (Stepped.Sending serial left) e s = unfold afterStep moved in refl
       go (Stepped.Departed serial connection arrival departure) e s = unfold afterStep moved in refl
-      go Stepped.NotSound e s = absurd (true≢false (sym (every-run-sound set allowed calls) ∙ s))
-      go Stepped.CounterEnded e s = absurd (let l = leb-true lastSlot (box .counter) (s .1) in omega arith)
-      go Stepped.TurnBlocked e s = absurd (turn-never-blocked e)
+      go (Stepped.Refused why) e (step-unsound u) = absurd (true≢false (sym (every-run-sound set allowed calls) ∙ u))
+      go (Stepped.Refused why) e (counter-ended u n) = absurd (let l = leb-true lastSlot (box .counter) n in omega arith)
+      go (Stepped.Refused why) e (turn-blocked u n d) = absurd (turn-never-blocked e)

@@ -6,6 +6,7 @@ use lib.Dec.{eqb}
 use Rattle.laws.specs.Tests.{every}
 use Rattle.meaning.specs.declared.Offered.{Offered}
 use Rattle.meaning.specs.declared.Connection.{Connection}
+use Rattle.meaning.specs.Answers.{offered}
 use Rattle.guarantees.specs.Runs.{Call, admit, offer, step, Reply, toAdmission, toOffer, toStep, Event}
 
 -- An admission at a slot, or an offer of the one connection at a slot, with its length.
@@ -27,11 +28,7 @@ asked n (e ∷ es) = askOf n (e .slot) (e .call) ++ asked n es
 -- An answer with "serials aside because others' packets are counted in them".
 unfoldable pub serialAside : Offered → Offered
 serialAside (Offered.Accepted serial) = Offered.Accepted 0
-serialAside Offered.NotSound = Offered.NotSound
-serialAside Offered.NoConnection = Offered.NoConnection
-serialAside Offered.WrongLength = Offered.WrongLength
-serialAside Offered.NotFitting = Offered.NotFitting
-serialAside Offered.StoreFull = Offered.StoreFull
+serialAside (Offered.Refused why) = Offered.Refused why
 
 -- The offer answer that this call gave connection n, if any.
 unfoldable pub answerTo : ℕ → Call → Reply → List Offered
@@ -50,12 +47,7 @@ told n (e ∷ es) = answerTo n (e .call) (e .answer) ++ told n es
 unfoldable pub isTen : Reply → Bool
 isTen (toAdmission a) = false
 isTen (toStep a) = false
-isTen (toOffer Offered.StoreFull) = true
-isTen (toOffer Offered.NotSound) = false
-isTen (toOffer Offered.NoConnection) = false
-isTen (toOffer Offered.WrongLength) = false
-isTen (toOffer Offered.NotFitting) = false
-isTen (toOffer (Offered.Accepted serial)) = false
+isTen (toOffer a) = eqb (offered a .number) 10
 
 -- A run answers 10 nowhere.
 unfoldable pub neverTen : List Event → Bool

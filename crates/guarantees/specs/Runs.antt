@@ -63,11 +63,7 @@ trace box (c ∷ cs) = record { slot = box .counter; call = c; answer = reply bo
 -- The packet that an offer at this slot brought in, if its answer took it.
 unfoldable pub offerTaken : ℕ → ℕ → ℕ → Offered → List Packet
 offerTaken slot n units (Offered.Accepted serial) = record { serial = serial; connection = n; units = units; arrival = slot } ∷ []
-offerTaken slot n units Offered.NotSound = []
-offerTaken slot n units Offered.NoConnection = []
-offerTaken slot n units Offered.WrongLength = []
-offerTaken slot n units Offered.NotFitting = []
-offerTaken slot n units Offered.StoreFull = []
+offerTaken slot n units (Offered.Refused why) = []
 
 -- The packet that a call and its answer brought in, if any.
 unfoldable pub packetTaken : ℕ → Call → Reply → List Packet
@@ -105,9 +101,7 @@ stepLeft (Stepped.Departed serial connection arrival departure) =
     record { serial = serial; connection = connection; arrival = arrival; departure = departure } ∷ []
 stepLeft Stepped.Idle = []
 stepLeft (Stepped.Sending serial left) = []
-stepLeft Stepped.NotSound = []
-stepLeft Stepped.CounterEnded = []
-stepLeft Stepped.TurnBlocked = []
+stepLeft (Stepped.Refused why) = []
 
 -- The departure that an answer reports, if any.
 unfoldable pub packetLeft : Reply → List Departure

@@ -1,7 +1,9 @@
 -- Bytes put into a buffer, and the room that they need.
-use Prim.Native.Nat.{ℕ, _+_, _≤_, _<_, _^_}
+use Prim.Native.Nat.{ℕ, suc, _+_, _≤_}
 use mathlib.Core.Path.{_≡_}
+use mathlib.Core.Bool.{cond}
 use mathlib.Core.List.{List, [], _∷_, _++_}
+use lib.Dec.{ltb}
 use lib.ListN.{length, take, drop}
 use Rattle.meaning.specs.Lines.{decimal}
 
@@ -22,12 +24,16 @@ pub record Put (before after : List ℕ) (at : ℕ) (s : List ℕ) (next : ℕ) 
 abbrev pub field : ℕ → ℕ → List ℕ
 field n after = decimal n ++ (after ∷ [])
 
--- A word with its space, and one, three or four numbers, with spaces between them and a newline at the end.
-abbrev pub line1 : List ℕ → ℕ → List ℕ
-line1 word a = word ++ field a 10
+-- The byte after the number at place i of so many: a space, or the newline that ends a line.
+unfoldable pub byteAfter : ℕ → ℕ → ℕ
+byteAfter i count = cond (ltb (suc i) count) 32 10
 
-abbrev pub line3 : List ℕ → ℕ → ℕ → ℕ → List ℕ
-line3 word a b c = word ++ (field a 32 ++ (field b 32 ++ field c 10))
+-- Numbers, each with the byte after it.
+unfoldable pub fields : List ℕ → List ℕ
+fields [] = []
+fields (n ∷ []) = field n 10
+fields (n ∷ m ∷ ns) = field n 32 ++ fields (m ∷ ns)
 
-abbrev pub line4 : List ℕ → ℕ → ℕ → ℕ → ℕ → List ℕ
-line4 word a b c d = word ++ (field a 32 ++ (field b 32 ++ (field c 32 ++ field d 10)))
+-- A fixed word with its space, and a list of numbers.
+abbrev pub line : List ℕ → List ℕ → List ℕ
+line word numbers = word ++ fields numbers

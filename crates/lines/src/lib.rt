@@ -1,11 +1,11 @@
 // One line of output into a lent buffer: a fixed word and its numbers. Document 01, "The program and one whole run".
 ghost use mathlib.Core.Path.{_≡_};
-ghost use Prim.Native.Nat.{_+_, _≤_};
+ghost use Prim.Native.Nat.{_+_, _<_, _≤_};
 ghost use mathlib.Core.List.{[], _∷_};
 ghost use lib.ListN.{length};
 ghost use Rattle.meaning.specs.Lines.{ascii, decimal, lineText};
 ghost use Rattle.meaning.specs.Run.{admitLine, offerLine, departLine, endLine, refusedLine, stopLine};
-ghost use Rattle.lines.specs.Put.{Put, Room, field, line1, line3, line4};
+ghost use Rattle.lines.specs.Put.{Put, Room, field, byteAfter, fields, line};
 
 // The bytes of s, from `at` on.
 fn put_bytes(out: &mut [u8], at: usize, s: &[u8]) -> usize
@@ -34,7 +34,7 @@ fn put_number(out: &mut [u8], at: usize, n: u32) -> usize
     last + 1
 }
 
-// The number n and the byte after it: a space, or the newline that ends a line.
+// The number n and the byte after it.
 fn put_field(out: &mut [u8], at: usize, n: u32, after: u8) -> usize
     requires { ⌜ Room (now out) at (field n after) ⌝ }
     ensures { λ r. ⌜ Put (now (out .entry)) (now (out .exit)) at (field n after) r ⌝ }
@@ -44,36 +44,35 @@ fn put_field(out: &mut [u8], at: usize, n: u32, after: u8) -> usize
     last + 1
 }
 
-// A fixed word with its space, and one number.
-fn put_line1(out: &mut [u8], at: usize, word: &[u8], a: u32) -> usize
-    requires { ⌜ Room (now out) at (line1 (now word) a) ⌝ }
-    ensures { λ r. ⌜ Put (now (out .entry)) (now (out .exit)) at (line1 (now (word .entry)) a) r ⌝ }
+// The byte after the number at place i of so many: a space, or the newline that ends a line.
+fn byte_after(i: usize, count: usize) -> u8
+    requires { ⌜ i < count ⌝ }
+    ensures { λ r. ⌜ r ≡ byteAfter i count ⌝ }
 {
-    let p = put_bytes(out, at, word);
-    put_field(out, p, a, 10)
+    if i + 1 < count { 32 } else { 10 }
 }
 
-// A fixed word with its space, and three numbers.
-fn put_line3(out: &mut [u8], at: usize, word: &[u8], a: u32, b: u32, c: u32) -> usize
-    requires { ⌜ Room (now out) at (line3 (now word) a b c) ⌝ }
-    ensures { λ r. ⌜ Put (now (out .entry)) (now (out .exit)) at (line3 (now (word .entry)) a b c) r ⌝ }
+// The numbers, each with the byte after it.
+fn put_fields(out: &mut [u8], at: usize, numbers: &[u32]) -> usize
+    requires { ⌜ Room (now out) at (fields (now numbers)) ⌝ }
+    ensures { λ r. ⌜ Put (now (out .entry)) (now (out .exit)) at (fields (now (numbers .entry))) r ⌝ }
 {
-    let p = put_bytes(out, at, word);
-    let q = put_field(out, p, a, 32);
-    let r = put_field(out, q, b, 32);
-    put_field(out, r, c, 10)
+    let mut next = at;
+    let mut i = 0;
+    while i < numbers.len() {
+        next = put_field(out, next, numbers[i], byte_after(i, numbers.len()));
+        i += 1;
+    }
+    next
 }
 
-// A fixed word with its space, and four numbers.
-fn put_line4(out: &mut [u8], at: usize, word: &[u8], a: u32, b: u32, c: u32, d: u32) -> usize
-    requires { ⌜ Room (now out) at (line4 (now word) a b c d) ⌝ }
-    ensures { λ r. ⌜ Put (now (out .entry)) (now (out .exit)) at (line4 (now (word .entry)) a b c d) r ⌝ }
+// A line: a fixed word with its space, and its numbers.
+fn put_line(out: &mut [u8], at: usize, word: &[u8], numbers: &[u32]) -> usize
+    requires { ⌜ Room (now out) at (line (now word) (now numbers)) ⌝ }
+    ensures { λ r. ⌜ Put (now (out .entry)) (now (out .exit)) at (line (now (word .entry)) (now (numbers .entry))) r ⌝ }
 {
-    let p = put_bytes(out, at, word);
-    let q = put_field(out, p, a, 32);
-    let r = put_field(out, q, b, 32);
-    let s = put_field(out, r, c, 32);
-    put_field(out, s, d, 10)
+    let first = put_bytes(out, at, word);
+    put_fields(out, first, numbers)
 }
 
 // `ADMIT` place, answer, t.
@@ -81,7 +80,7 @@ pub fn put_admit(out: &mut [u8], at: usize, place: u32, answer: u32, t: u32) -> 
     requires { ⌜ Room (now out) at (lineText (admitLine place answer t)) ⌝ }
     ensures { λ r. ⌜ Put (now (out .entry)) (now (out .exit)) at (lineText (admitLine place answer t)) r ⌝ }
 {
-    put_line3(out, at, b"ADMIT ", place, answer, t)
+    put_line(out, at, b"ADMIT ", &[place, answer, t])
 }
 
 // `OFFER` arrival place, answer, serial or 0.
@@ -89,7 +88,7 @@ pub fn put_offer(out: &mut [u8], at: usize, place: u32, answer: u32, serial: u32
     requires { ⌜ Room (now out) at (lineText (offerLine place answer serial)) ⌝ }
     ensures { λ r. ⌜ Put (now (out .entry)) (now (out .exit)) at (lineText (offerLine place answer serial)) r ⌝ }
 {
-    put_line3(out, at, b"OFFER ", place, answer, serial)
+    put_line(out, at, b"OFFER ", &[place, answer, serial])
 }
 
 // `DEPART` serial, connection's place, arrival, departure.
@@ -104,7 +103,7 @@ pub fn put_depart(
     requires { ⌜ Room (now out) at (lineText (departLine serial place arrival departure)) ⌝ }
     ensures { λ r. ⌜ Put (now (out .entry)) (now (out .exit)) at (lineText (departLine serial place arrival departure)) r ⌝ }
 {
-    put_line4(out, at, b"DEPART ", serial, place, arrival, departure)
+    put_line(out, at, b"DEPART ", &[serial, place, arrival, departure])
 }
 
 // `END` counter, accepted, departed.
@@ -112,7 +111,7 @@ pub fn put_end(out: &mut [u8], at: usize, counter: u32, accepted: u32, departed:
     requires { ⌜ Room (now out) at (lineText (endLine counter accepted departed)) ⌝ }
     ensures { λ r. ⌜ Put (now (out .entry)) (now (out .exit)) at (lineText (endLine counter accepted departed)) r ⌝ }
 {
-    put_line3(out, at, b"END ", counter, accepted, departed)
+    put_line(out, at, b"END ", &[counter, accepted, departed])
 }
 
 // `REFUSED` and the number.
@@ -120,7 +119,7 @@ pub fn put_refused(out: &mut [u8], at: usize, answer: u32) -> usize
     requires { ⌜ Room (now out) at (lineText (refusedLine answer)) ⌝ }
     ensures { λ r. ⌜ Put (now (out .entry)) (now (out .exit)) at (lineText (refusedLine answer)) r ⌝ }
 {
-    put_line1(out, at, b"REFUSED ", answer)
+    put_line(out, at, b"REFUSED ", &[answer])
 }
 
 // `STOP` and the number.
@@ -128,5 +127,5 @@ pub fn put_stop(out: &mut [u8], at: usize, answer: u32) -> usize
     requires { ⌜ Room (now out) at (lineText (stopLine answer)) ⌝ }
     ensures { λ r. ⌜ Put (now (out .entry)) (now (out .exit)) at (lineText (stopLine answer)) r ⌝ }
 {
-    put_line1(out, at, b"STOP ", answer)
+    put_line(out, at, b"STOP ", &[answer])
 }

@@ -11,12 +11,10 @@ use Rattle.laws.specs.Tests.{bool-cases}
 use Rattle.laws.specs.Lists.{Placed, keep}
 use Rattle.laws.specs.Sums.{sumOf, sum-add}
 use Rattle.meaning.specs.declared.Arrival.{Arrival}
+use Rattle.meaning.specs.Rest.{from}
 
 module _ (size : Placed Arrival → ℕ) where
-  -- The arrivals from a slot on, and those of that slot.
-  unfoldable pub from : ℕ → List (Placed Arrival) → ℕ
-  from slot l = sumOf (λ a. cond (leb slot (a .entry .slot)) (size a) 0) l
-
+  -- The sum over the arrivals of a slot counts each arrival, those of other slots for 0.
   pub kept-sum : (slot : ℕ) (l : List (Placed Arrival))
       → sumOf size (keep (λ a. eqb (a .entry .slot) slot) l) ≡ sumOf (λ a. cond (eqb (a .entry .slot) slot) (size a) 0) l
   unfolding keep sumOf
@@ -29,7 +27,9 @@ module _ (size : Placed Arrival → ℕ) where
       go true e = ap (λ n. size a + n) e
       go false e = omega arith
 
-  pub next-slot : (slot : ℕ) (l : List (Placed Arrival)) → from slot l ≡ sumOf size (keep (λ a. eqb (a .entry .slot) slot) l) + from (suc slot) l
+  -- The arrivals from a slot on are those of that slot and those from the next one on.
+  pub next-slot : (slot : ℕ) (l : List (Placed Arrival))
+      → from size slot l ≡ sumOf size (keep (λ a. eqb (a .entry .slot) slot) l) + from size (suc slot) l
   unfolding from
   next-slot slot l =
       sum-add (λ a. cond (eqb (a .entry .slot) slot) (size a) 0) (λ a. cond (leb (suc slot) (a .entry .slot)) (size a) 0)
@@ -52,7 +52,8 @@ module _ (size : Placed Arrival → ℕ) where
           (bool-cases (leb (suc slot) s)))
           (bool-cases (eqb s slot))
 
-  pub from-start : (l : List (Placed Arrival)) → from 0 l ≡ sumOf size l
+  -- From slot 0 on there are all of them.
+  pub from-start : (l : List (Placed Arrival)) → from size 0 l ≡ sumOf size l
   unfolding from sumOf
   from-start [] = refl
   from-start (a ∷ l) = let e = from-start l in rw (leb·zero (a .entry .slot)) (ap (λ n. size a + n) e)

@@ -17,6 +17,7 @@ use Rattle.meaning.specs.Queues.{emptyQueues, rank}
 use Rattle.meaning.specs.declared.Packet.{Packet}
 use Rattle.meaning.specs.declared.Standing.{Standing}
 use Rattle.meaning.specs.Box.{Box, connections, connection, noConnection, waiting, onLink, packets, rankIn, inTheirQueues, serialsRise, packetKept, linkKept, allowancesKept, sound}
+use Rattle.meaning.specs.declared.Refusal.{Refusal}
 use Rattle.meaning.specs.declared.Admitted.{Admitted}
 use Rattle.meaning.specs.Calls.{newBox, withNewcomer, searchAnswer, admissionAnswer, withStanding, afterAdmission}
 use Rattle.meaning.proofs.Facts.{SoundFacts, PacketFacts, sound-facts, sound-test, packet-facts, packet-test}
@@ -151,9 +152,9 @@ admission-keeps-sound box c e =
         → (rate-holds : Bool) (found : Search)
         → sound
         (afterAdmission box c
-        (cond (not allowed) Admitted.OffRange
-        (cond no-room Admitted.TableFull
-        (cond (not rate-holds) Admitted.RateExceeded (searchAnswer (suc (length (box .standing))) found)))))
+        (cond (not allowed) (Admitted.Refused Refusal.ConnectionOffRange)
+        (cond no-room (Admitted.Refused Refusal.TableFull)
+        (cond (not rate-holds) (Admitted.Refused Refusal.RateExceeded) (searchAnswer (suc (length (box .standing))) found)))))
         ≡ true
     go false a r b h s = e
     go true a true b h s = e

@@ -18,6 +18,7 @@ use Rattle.meaning.specs.Queues.{rank, joinTail}
 use Rattle.meaning.specs.declared.Packet.{Packet}
 use Rattle.meaning.specs.declared.Standing.{Standing}
 use Rattle.meaning.specs.Box.{Box, connections, connection, noConnection, stands, waiting, onLink, packets, rankIn, inTheirQueues, serialsRise, packetKept, allowancesKept, sound}
+use Rattle.meaning.specs.declared.Refusal.{Refusal}
 use Rattle.meaning.specs.declared.Offered.{Offered}
 use Rattle.meaning.specs.Calls.{allowance, chargedAt, joined, offerAnswer, afterOffer}
 use Rattle.meaning.proofs.Facts.{SoundFacts, SettingsFacts, ConnectionFacts, PacketFacts, sound-facts, sound-test, settings-facts, connection-facts, packet-facts, packet-test}
@@ -274,9 +275,9 @@ offer-keeps-sound box n units e =
         → (fit : Bool) → conforms (connection box n) (allowance box n) (box .counter) ≡ fit → (no-room : Bool) → leb mostWaiting (length (waiting box)) ≡ no-room
         → sound
         (afterOffer box n units
-        (cond (not known) Offered.NoConnection
-        (cond (not permitted) Offered.WrongLength
-        (cond (not fit) Offered.NotFitting (cond no-room Offered.StoreFull (Offered.Accepted (suc (box .accepted))))))))
+        (cond (not known) (Offered.Refused Refusal.NoConnection)
+        (cond (not permitted) (Offered.Refused Refusal.WrongLength)
+        (cond (not fit) (Offered.Refused Refusal.NotFitting) (cond no-room (Offered.Refused Refusal.StoreFull) (Offered.Accepted (suc (box .accepted))))))))
         ≡ true
     go false a p b f c r d = e
     go true a false b f c r d = e

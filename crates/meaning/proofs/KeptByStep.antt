@@ -18,6 +18,7 @@ use Rattle.meaning.specs.Queues.{turnAt, turned, lowestHead, withoutLowe
 use Rattle.meaning.specs.declared.Packet.{Packet}
 use Rattle.meaning.specs.declared.Standing.{Standing}
 use Rattle.meaning.specs.Box.{Box, Link, free, carries, connections, connection, waiting, onLink, packets, rankIn, inTheirQueues, serialsRise, packetKept, linkKept, allowancesKept, sound}
+use Rattle.meaning.specs.declared.Refusal.{Refusal}
 use Rattle.meaning.specs.declared.Stepped.{Stepped}
 use Rattle.meaning.specs.Step.{loaded, linkTaken, queuesTaken, sentAnswer, linkSent, turnDue, stepAnswer, queuesStepped, moved, afterStep}
 use Rattle.meaning.proofs.Facts.{SoundFacts, PacketFacts, sound-facts, sound-test, settings-facts, packet-facts, packet-test}
@@ -311,8 +312,8 @@ step-keeps-sound box e =
         → (blocked : Bool) → (turnDue box && tagZeroWaits (queuesTaken (box .link) (box .queues))) ≡ blocked
         → sound
         (afterStep box
-        (cond at-end Stepped.CounterEnded
-        (cond blocked Stepped.TurnBlocked (sentAnswer (suc (box .counter)) (linkTaken (box .link) (box .queues))))))
+        (cond at-end (Stepped.Refused Refusal.CounterEnded)
+        (cond blocked (Stepped.Refused Refusal.TurnBlocked) (sentAnswer (suc (box .counter)) (linkTaken (box .link) (box .queues))))))
         ≡ true
     go true a b c = e
     go false a true c = e

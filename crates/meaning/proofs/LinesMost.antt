@@ -11,16 +11,18 @@ use Rattle.laws.specs.Lists.{Placed, keep}
 use Rattle.laws.specs.Sums.{sumOf}
 use Rattle.meaning.specs.declared.Stepped.{Stepped}
 use Rattle.meaning.specs.Box.{Box, packets, sound}
-use Rattle.meaning.specs.Answers.{refusal, stepped}
+use Rattle.meaning.specs.Answers.{refusalNumber, refusal, stepped}
 use Rattle.meaning.specs.Step.{linkTaken, sentAnswer, stepAnswer, moved, afterStep}
 use Rattle.meaning.specs.declared.Arrival.{Arrival}
 use Rattle.meaning.specs.Run.{Line, going, ended, stopped, endLine, stopLine, offerAll, departures, finished, phase, slots}
-use Rattle.meaning.proofs.ArrivalSums.{from, next-slot}
+use Rattle.meaning.specs.Rest.{from}
+use Rattle.meaning.proofs.ArrivalSums.{next-slot}
 use Rattle.meaning.proofs.Facts.{sound-facts}
 use Rattle.meaning.proofs.KeptByStep.{sent-moves, step-keeps-sound}
+use Rattle.meaning.proofs.Readings.{refusal-range, refused-phase}
 use Rattle.meaning.proofs.TextMost.{Printed, PrintedLine, AllPrinted}
 use Rattle.meaning.proofs.OfferLines.{accepted-printed, offers}
-use Rattle.meaning.proofs.StepLines.{Outcome, moves, ends, blocks, moved-count, sent-printed, outcome, sent-number, moved-counter}
+use Rattle.meaning.proofs.StepLines.{Outcome, moves, refuses, moved-count, sent-printed, outcome, sent-number, moved-counter}
 
 -- each arrival counts for one
 abbrev pub one : Placed Arrival → ℕ
@@ -75,9 +77,11 @@ after-offers n l numbers box departed most answer moves e k h rest = moving (sen
         let d : Few (departures numbers a) (length (departures numbers a)) =
         record { count = omega arith; printed = subst (λ x. AllPrinted (departures numbers x)) (sym i) (sent-printed numbers box e h) } in
         rw (m, z) (few-more (few-append d (rest (ap sound (sym m) ∙ s) (departed + length (departures numbers a)) (omega arith))) (omega arith))
-after-offers n l numbers box departed most answer ends e k h rest = few-more (stopped-few n 12 l numbers box (departed + 0) (omega arith)) (omega arith)
-after-offers n l numbers box departed most answer blocks e k h rest = few-more (stopped-few n 11 l numbers box (departed + 0) (omega arith)) (omega arith)
+after-offers n l numbers box departed most answer (refuses why) e k h rest =
+    let r = refusal-range why in
+    rw (refused-phase l box why) (few-more (stopped-few n (refusalNumber why) l numbers box (departed + 0) (omega arith)) (omega arith))
 
+-- Arrivals that count for one each are counted.
 pub length-is : (l : List (Placed Arrival)) → sumOf one l ≡ length l
 unfolding sumOf
 length-is [] = refl

@@ -9,13 +9,14 @@ use lib.ListN.{length, getD, length-append}
 use lib.Dec.{leb}
 use Rattle.laws.specs.Tests.{within}
 use Rattle.laws.specs.Lists.{Placed}
+use Rattle.meaning.specs.declared.Refusal.{Refusal}
 use Rattle.meaning.specs.declared.Offered.{Offered}
 use Rattle.meaning.specs.Numbers.{factor}
 use Rattle.meaning.specs.Envelope.{conforms}
 use Rattle.meaning.specs.Queues.{joinTail}
 use Rattle.meaning.specs.declared.Packet.{Packet}
 use Rattle.meaning.specs.Box.{Box, Link, free, carries, connection, stands, waiting, onLink, packets, sound}
-use Rattle.meaning.specs.Answers.{refusal, offered}
+use Rattle.meaning.specs.Answers.{refusalNumber, refusal, offered}
 use Rattle.meaning.specs.Calls.{allowance, offerAnswer, afterOffer, joined}
 use Rattle.meaning.specs.declared.Arrival.{Arrival}
 use Rattle.meaning.specs.Run.{Line, offerLine, numberOf, offerAll}
@@ -35,21 +36,13 @@ offer-count box n units (Offered.Accepted serial) =
     let p : Packet = record { serial = serial; connection = n; units = units; arrival = box .counter } in
     let j = joined-most (factor (box .settings) (connection box n .class)) p (box .queues) in
     simp length-append (omega arith)
-offer-count box n units Offered.NotSound = omega arith
-offer-count box n units Offered.NoConnection = omega arith
-offer-count box n units Offered.WrongLength = omega arith
-offer-count box n units Offered.NotFitting = omega arith
-offer-count box n units Offered.StoreFull = omega arith
+offer-count box n units (Offered.Refused why) = omega arith
 
 -- an offer does not move the counter
 pub offer-counter : (box : Box) (n units : ℕ) (answer : Offered) → afterOffer box n units answer .counter ≡ box .counter
 unfolding afterOffer
 offer-counter box n units (Offered.Accepted serial) = refl
-offer-counter box n units Offered.NotSound = refl
-offer-counter box n units Offered.NoConnection = refl
-offer-counter box n units Offered.WrongLength = refl
-offer-counter box n units Offered.NotFitting = refl
-offer-counter box n units Offered.StoreFull = refl
+offer-counter box n units (Offered.Refused why) = refl
 
 -- the count of accepted packets of a sound box, and one more, is a printed number
 pub accepted-printed : (box : Box) → sound box ≡ true → suc (suc (box .accepted)) < 5000000000
@@ -69,7 +62,7 @@ accepted-printed box e =
 
 offer-printed : (box : Box) (n units place : ℕ) → sound box ≡ true → Printed place
     → PrintedLine (offerLine place (offered (offerAnswer box n units) .number) (getD (offered (offerAnswer box n units) .fields) 0 0))
-unfolding offerAnswer offered refusal
+unfolding offerAnswer offered refusal refusalNumber
 offer-printed box n units place e p =
     let a = accepted-printed box e in
     rw e
@@ -78,10 +71,10 @@ offer-printed box n units place e p =
     go : (a b c d : Bool) → suc (suc (box .accepted)) < 5000000000
         → PrintedLine
         (offerLine place
-        (offered (cond (not a) Offered.NoConnection (cond (not b) Offered.WrongLength (cond (not c) Offered.NotFitting (cond d Offered.StoreFull (Offered.Accepted (suc (box .accepted)))))))
+        (offered (cond (not a) (Offered.Refused Refusal.NoConnection) (cond (not b) (Offered.Refused Refusal.WrongLength) (cond (not c) (Offered.Refused Refusal.NotFitting) (cond d (Offered.Refused Refusal.StoreFull) (Offered.Accepted (suc (box .accepted)))))))
         .number)
         (getD
-        (offered (cond (not a) Offered.NoConnection (cond (not b) Offered.WrongLength (cond (not c) Offered.NotFitting (cond d Offered.StoreFull (Offered.Accepted (suc (box .accepted)))))))
+        (offered (cond (not a) (Offered.Refused Refusal.NoConnection) (cond (not b) (Offered.Refused Refusal.WrongLength) (cond (not c) (Offered.Refused Refusal.NotFitting) (cond d (Offered.Refused Refusal.StoreFull) (Offered.Accepted (suc (box .accepted)))))))
         .fields)
         0 0))
     go false b c d h = (p, omega arith, omega arith)

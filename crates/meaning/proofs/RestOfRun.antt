@@ -9,36 +9,21 @@ use lib.Dec.{eqb}
 use Rattle.laws.specs.Lists.{Placed, keep, placedFrom}
 use Rattle.meaning.specs.declared.Stepped.{Stepped}
 use Rattle.meaning.specs.Box.{Box}
-use Rattle.meaning.specs.Answers.{refusal, stepped}
+use Rattle.meaning.specs.Answers.{refusalNumber, refusal, stepped}
 use Rattle.meaning.specs.Calls.{newBox}
 use Rattle.meaning.specs.Step.{stepAnswer, moved, afterStep}
 use Rattle.meaning.specs.declared.Arrival.{Arrival}
 use Rattle.meaning.specs.Plan.{Plan}
 use Rattle.meaning.specs.Run.{Line, Phase, going, ended, stopped, endLine, stopLine, admitAll, offerAll, departures, finished, phase, slots, slotsEnough, openRun}
-use Rattle.meaning.proofs.SlotsEnough.{potential, falls, enough, start-potential, new-weight, admissions-weight}
-
--- The lines of the rest of a run.
-unfoldable pub restOf : List (Placed Arrival) → List ℕ → Box → ℕ → List Line
-restOf l numbers box departed = slots (suc (potential l box)) (phase l box 0) l numbers box departed
+use Rattle.meaning.specs.Rest.{potential, dueNow, restOf, afterAnswer}
+use Rattle.meaning.proofs.Readings.{refused-phase}
+use Rattle.meaning.proofs.SlotsEnough.{falls, enough, start-potential, new-weight, admissions-weight}
 
 -- The run is at its end.
 pub rest-ended : (l : List (Placed Arrival)) (numbers : List ℕ) (box : Box) (departed : ℕ) → finished l box ≡ true
     → restOf l numbers box departed ≡ endLine (box .counter) (box .accepted) departed ∷ []
 unfolding restOf slots phase
 rest-ended l numbers box departed e = rw e refl
-
--- The arrivals of the slot to which the counter points.
-abbrev pub dueNow : List (Placed Arrival) → Box → List (Placed Arrival)
-dueNow l box = keep (λ a. eqb (a .entry .slot) (box .counter)) l
-
--- After a step's answer: the rest of the run, or the line of a refused step.
-unfoldable pub afterAnswer : List (Placed Arrival) → List ℕ → Box → ℕ → Stepped → List Line
-afterAnswer l numbers box departed Stepped.Idle = restOf l numbers (moved box) departed
-afterAnswer l numbers box departed (Stepped.Sending serial left) = restOf l numbers (moved box) departed
-afterAnswer l numbers box departed (Stepped.Departed serial connection arrival departure) = restOf l numbers (moved box) (departed + 1)
-afterAnswer l numbers box departed Stepped.NotSound = stopLine 1 ∷ []
-afterAnswer l numbers box departed Stepped.CounterEnded = stopLine 12 ∷ []
-afterAnswer l numbers box departed Stepped.TurnBlocked = stopLine 11 ∷ []
 
 -- Fewer slots are enough after a step.
 rest-from : (n d : ℕ) (l : List (Placed Arrival)) (numbers : List ℕ) (box : Box) → potential l box < n
@@ -61,9 +46,8 @@ unfolding afterStep stepped refusal departures afterAnswer phase
 answered n l numbers box departed Stepped.Idle h = let z : departed + 0 ≡ departed = omega arith in ap (λ d. slots n (phase l (moved box) 0) l numbers (moved box) d) z ∙ rest-from n departed l numbers (moved box) h
 answered n l numbers box departed (Stepped.Sending serial left) h = let z : departed + 0 ≡ departed = omega arith in ap (λ d. slots n (phase l (moved box) 0) l numbers (moved box) d) z ∙ rest-from n departed l numbers (moved box) h
 answered n l numbers box departed (Stepped.Departed serial connection arrival departure) h = rest-from n (departed + 1) l numbers (moved box) h
-answered n l numbers box departed Stepped.NotSound h = stop-line n 1 l numbers box (departed + 0) (omega arith)
-answered n l numbers box departed Stepped.CounterEnded h = stop-line n 12 l numbers box (departed + 0) (omega arith)
-answered n l numbers box departed Stepped.TurnBlocked h = stop-line n 11 l numbers box (departed + 0) (omega arith)
+answered n l numbers box departed (Stepped.Refused why) h =
+    rw (refused-phase l box why) (stop-line n (refusalNumber why) l numbers box (departed + 0) (omega arith))
 
 -- One slot of a run that goes on: the lines of its offers, that of a departure, and the rest.
 pub rest-goes-on : (l : List (Placed Arrival)) (numbers : List ℕ) (box : Box) (departed : ℕ) → finished l box ≡ false

@@ -13,6 +13,7 @@ use Rattle.laws.specs.Lists.{Placed, placedFrom}
 use Rattle.laws.specs.Search.{Search, failsAt, holds, firstFailing}
 use Rattle.laws.specs.Finding.{first-failing-fails}
 use Rattle.meaning.specs.declared.Header.{Header}
+use Rattle.meaning.specs.declared.Refusal.{Refusal}
 use Rattle.meaning.specs.declared.Opened.{Opened}
 use Rattle.meaning.specs.declared.Admitted.{Admitted}
 use Rattle.meaning.specs.declared.PlanRead.{PlanRead}
@@ -22,23 +23,25 @@ use Rattle.meaning.specs.Admission.{conditionAt, rateHolds, finiteSearch
 use Rattle.meaning.specs.Queues.{emptyQueues}
 use Rattle.meaning.specs.declared.Packet.{Packet}
 use Rattle.meaning.specs.Box.{Box, onLink, waiting, packets, sound}
-use Rattle.meaning.specs.Answers.{refusal, opened, admitted, planRead}
+use Rattle.meaning.specs.Answers.{refusalNumber, failingT, admitted}
 use Rattle.meaning.specs.Calls.{newBox, openingAnswer, withNewcomer, searchAnswer, admissionAnswer, withStanding, afterAdmission}
 use Rattle.meaning.specs.declared.Arrival.{Arrival}
 use Rattle.meaning.specs.Plan.{Plan, wordsOf, headerOf, contentsOf, table, countsAllowed, layoutWrong, slotsWrong, sizeWrong, sumWrong, readingAnswer, connectionAt, arrivalAt}
 use Rattle.meaning.specs.Run.{Line, admitLine, refusedLine, lineOfAdmission, admitAll, phase, slots, slotsEnough, openRun, planRun, readRun, run}
 use Rattle.meaning.specs.Lines.{runText, textMost}
 use Rattle.meaning.proofs.Facts.{sound-facts, settings-facts}
-use Rattle.meaning.proofs.ArrivalSums.{from, from-start}
+use Rattle.meaning.specs.Rest.{from}
+use Rattle.meaning.proofs.ArrivalSums.{from-start}
 use Rattle.meaning.proofs.KeptByAdmission.{new-box-sound, admission-keeps-sound}
 use Rattle.meaning.proofs.QueueLaws.{empty-flatten}
+use Rattle.meaning.proofs.Readings.{refusal-range}
 use Rattle.meaning.proofs.TextMost.{Printed, PrintedLine, AllPrinted, text-most}
 use Rattle.meaning.proofs.LinesMost.{Tally, Few, few-append, few-more, few-one, one, length-is, slots-few}
 
 -- An admission: its line has small numbers, and it moves neither the counter nor a packet.
 admission-printed : (box : Box) (c : Connection) (place : ℕ) → sound box ≡ true → Printed place → length (box .standing) ≤ 32
     → PrintedLine (lineOfAdmission place (admissionAnswer box c))
-unfolding lineOfAdmission admissionAnswer admitted refusal searchAnswer finiteSearch
+unfolding lineOfAdmission admissionAnswer admitted refusalNumber failingT searchAnswer finiteSearch
 admission-printed box c place e p r =
     rw e
     (go (connectionAllowed (box .settings) c) (leb 32 (length (box .standing))) (rateHolds (box .settings) (withNewcomer box c))
@@ -54,7 +57,7 @@ admission-printed box c place e p r =
     go : (a b d : Bool) (s : Search) → firstFailing (conditionAt (box .settings) (withNewcomer box c)) (largestBound (box .settings) + box .settings .cycle) ≡ s
         → PrintedLine
         (lineOfAdmission place
-        (cond (not a) Admitted.OffRange (cond b Admitted.TableFull (cond (not d) Admitted.RateExceeded (searchAnswer (suc (length (box .standing))) s)))))
+        (cond (not a) (Admitted.Refused Refusal.ConnectionOffRange) (cond b (Admitted.Refused Refusal.TableFull) (cond (not d) (Admitted.Refused Refusal.RateExceeded) (searchAnswer (suc (length (box .standing))) s)))))
     go false b d s q = (p, omega arith, omega arith)
     go true true d s q = (p, omega arith, omega arith)
     go true false false s q = (p, omega arith, omega arith)
@@ -68,11 +71,7 @@ admission-same : (box : Box) (c : Connection) (answer : Admitted)
     → (afterAdmission box c answer .counter ≡ box .counter) × (packets (afterAdmission box c answer) ≡ packets box)
 unfolding afterAdmission withStanding packets waiting
 admission-same box c (Admitted.Taken n) = (refl, refl)
-admission-same box c Admitted.NotSound = (refl, refl)
-admission-same box c Admitted.OffRange = (refl, refl)
-admission-same box c Admitted.TableFull = (refl, refl)
-admission-same box c Admitted.RateExceeded = (refl, refl)
-admission-same box c (Admitted.ConditionFails t) = (refl, refl)
+admission-same box c (Admitted.Refused why) = (refl, refl)
 
 -- What all admissions leave behind.
 record Admitting (place : ℕ) (cs : List Connection) (box : Box) : Type 0 where
@@ -180,20 +179,20 @@ unfolding contentsOf
 arrival-count ws h = table-length arrivalAt 3 ws (h .arrivals .start / 4) (h .arrivals .count)
 
 -- A line of a refusal.
-refused-few : (n : ℕ) → Printed n → Few (refusedLine n ∷ []) 8225
-refused-few n p = few-more (few-one (refusedLine n) p) (omega arith)
+refused-few : (why : Refusal) → Few (refusedLine (refusalNumber why) ∷ []) 8225
+refused-few why = let r = refusal-range why in few-more (few-one (refusedLine (refusalNumber why)) (omega arith)) (omega arith)
 
-planned-few : (plan : Plan) → length (plan .connections) ≤ 32 → length (plan .arrivals) ≤ 4096 → Few (planRun plan (opened (openingAnswer 0 0 (plan .settings)) .number)) 8225
-unfolding planRun openingAnswer opened refusal
+planned-few : (plan : Plan) → length (plan .connections) ≤ 32 → length (plan .arrivals) ≤ 4096 → Few (planRun plan (openingAnswer 0 0 (plan .settings))) 8225
+unfolding planRun openingAnswer
 planned-few plan c a = go (settingsAllowed (plan .settings)) refl
   where
     go : (b : Bool) → settingsAllowed (plan .settings) ≡ b
-        → Few (planRun plan (opened (cond (not b) Opened.OffRange (cond false Opened.TooShort Opened.Done)) .number)) 8225
+        → Few (planRun plan (cond (not b) (Opened.Refused Refusal.SettingsOffRange) (cond false (Opened.Refused Refusal.TooShort) Opened.Done))) 8225
     go true e = open-few plan e c a
-    go false e = refused-few 2 (omega arith)
+    go false e = refused-few Refusal.SettingsOffRange
 
 read-few : (bytes : List ℕ) → Few (run bytes) 8225
-unfolding run readRun readingAnswer planRead refusal
+unfolding run readRun readingAnswer
 read-few bytes = go (sizeWrong bytes) (sumWrong (wordsOf bytes)) (layoutWrong (length bytes) (headerOf (wordsOf bytes))) refl
     (slotsWrong (contentsOf (wordsOf bytes) (headerOf (wordsOf bytes)) .arrivals))
   where
@@ -206,12 +205,12 @@ read-few bytes = go (sizeWrong bytes) (sumWrong (wordsOf bytes)) (layoutWrong (l
     go : (a b c : Bool) → layoutWrong (length bytes) (headerOf (wordsOf bytes)) ≡ c → (d : Bool)
         → Few
         (readRun bytes
-        (cond a PlanRead.WrongSize (cond b PlanRead.WrongSum (cond c PlanRead.WrongLayout (cond d PlanRead.WrongSlots (PlanRead.Good (headerOf (wordsOf bytes))))))))
+        (cond a (PlanRead.Refused Refusal.WrongSize) (cond b (PlanRead.Refused Refusal.WrongSum) (cond c (PlanRead.Refused Refusal.WrongLayout) (cond d (PlanRead.Refused Refusal.WrongSlots) (PlanRead.Good (headerOf (wordsOf bytes))))))))
         8225
-    go true b c e d = refused-few 13 (omega arith)
-    go false true c e d = refused-few 14 (omega arith)
-    go false false true e d = refused-few 15 (omega arith)
-    go false false false e true = refused-few 16 (omega arith)
+    go true b c e d = refused-few Refusal.WrongSize
+    go false true c e d = refused-few Refusal.WrongSum
+    go false false true e d = refused-few Refusal.WrongLayout
+    go false false false e true = refused-few Refusal.WrongSlots
     go false false false e false = good e
 
 -- Whatever the bytes are, the text of their run fits into `textMost` bytes.

@@ -20,27 +20,16 @@ use Rattle.meaning.specs.Numbers.{Settings, factor, largestFactor}
 use Rattle.meaning.specs.Queues.{emptyQueues, joinTail, turned, lowestHead, withoutLowestHead}
 use Rattle.meaning.specs.declared.Packet.{Packet}
 use Rattle.meaning.specs.Box.{Box, Link, free, carries, connection, waiting, onLink, packets}
-use Rattle.meaning.specs.Answers.{refusal, stepped}
+use Rattle.meaning.specs.Answers.{refusalNumber, refusal, stepped}
 use Rattle.meaning.specs.Calls.{newBox, withStanding, admissionAnswer, afterAdmission, joined, offerAnswer, afterOffer}
 use Rattle.meaning.specs.Step.{loaded, linkTaken, queuesTaken, linkSent, turnDue, stepAnswer, queuesStepped, moved, afterStep}
 use Rattle.meaning.specs.declared.Arrival.{Arrival}
 use Rattle.meaning.specs.Plan.{Plan}
 use Rattle.meaning.specs.Run.{Line, AfterOffers, Phase, going, ended, stopped, admitAll, numberOf, offerAll, departures, finished, phase, slots, slotsEnough}
-use Rattle.meaning.proofs.ArrivalSums.{from, next-slot, from-start}
+use Rattle.meaning.specs.Rest.{size, linkWeight, weight, arrivalSize, from, potential, dueNow}
+use Rattle.meaning.proofs.Readings.{refused-phase}
+use Rattle.meaning.proofs.ArrivalSums.{next-slot, from-start}
 use Rattle.meaning.proofs.QueueLaws.{nothing-waits, nothing-taken, flatten-last, empty-flatten}
-
--- What is left to send of a packet that waits, and one more.
-abbrev pub size : Packet → ℕ
-size p = suc (p .units)
-
--- What is left to send of the packet on the link, and one more.
-unfoldable pub linkWeight : Link → ℕ
-linkWeight free = 0
-linkWeight (carries p left) = suc left
-
--- What is left to send, a packet counting for one unit more.
-unfoldable pub weight : Box → ℕ
-weight box = sumOf size (flatten (box .queues)) + linkWeight (box .link)
 
 -- Queues.
 joined-most : (k : ℕ) (p : Packet) (qs : List (List Packet)) → sumOf size (flatten (joinTail k p qs)) ≤ size p + sumOf size (flatten qs)
@@ -123,14 +112,7 @@ offer-weight box n units (Offered.Accepted serial) =
     let a = joined-most (factor (box .settings) (connection box n .class)) p (box .queues) in
     let b = joined-least (factor (box .settings) (connection box n .class)) p (box .queues) in
     record { counter-stays = refl; most = omega arith; least = omega arith }
-offer-weight box n units Offered.NotSound = record { counter-stays = refl; most = omega arith; least = omega arith }
-offer-weight box n units Offered.NoConnection = record { counter-stays = refl; most = omega arith; least = omega arith }
-offer-weight box n units Offered.WrongLength = record { counter-stays = refl; most = omega arith; least = omega arith }
-offer-weight box n units Offered.NotFitting = record { counter-stays = refl; most = omega arith; least = omega arith }
-offer-weight box n units Offered.StoreFull = record { counter-stays = refl; most = omega arith; least = omega arith }
-
-abbrev pub arrivalSize : Placed Arrival → ℕ
-arrivalSize a = suc (a .entry .units)
+offer-weight box n units (Offered.Refused why) = record { counter-stays = refl; most = omega arith; least = omega arith }
 
 offers-weight : (numbers : List ℕ) (l : List (Placed Arrival)) (box : Box) → Offering box (offerAll numbers l box .box) (sumOf arrivalSize l)
 unfolding offerAll sumOf
@@ -144,10 +126,6 @@ offers-weight numbers (a ∷ l) box =
     let z = rest .most in
     let w = rest .least in
     record { counter-stays = rest .counter-stays ∙ one .counter-stays; most = omega arith; least = omega arith }
-
--- What falls with every slot: the slots up to the last arrival, the arrivals to come and what is left to send.
-unfoldable pub potential : List (Placed Arrival) → Box → ℕ
-potential l box = suc (largestOf (λ a. a .entry .slot) l) - box .counter + from arrivalSize (box .counter) l + weight box
 
 -- A run that is not finished has an arrival to come or something to send.
 some-to-come : (slot : ℕ) (l : List (Placed Arrival)) → every (λ a. ltb (a .entry .slot) slot) l ≡ false → slot ≤ largestOf (λ a. a .entry .slot) l
@@ -219,9 +197,8 @@ unfolding afterStep stepped refusal phase
 after-step-same n k l numbers box departed Stepped.Idle h e = e
 after-step-same n k l numbers box departed (Stepped.Sending serial left) h e = e
 after-step-same n k l numbers box departed (Stepped.Departed serial connection arrival departure) h e = e
-after-step-same n k l numbers box departed Stepped.NotSound h e = stopped-same n k 1 l numbers box departed h
-after-step-same n k l numbers box departed Stepped.CounterEnded h e = stopped-same n k 12 l numbers box departed h
-after-step-same n k l numbers box departed Stepped.TurnBlocked h e = stopped-same n k 11 l numbers box departed h
+after-step-same n k l numbers box departed (Stepped.Refused why) h e =
+    rw (refused-phase l box why) (stopped-same n k (refusalNumber why) l numbers box departed h)
 
 -- Once there are more slots than the potential, still more change no line.
 pub enough : (n k : ℕ) (l : List (Placed Arrival)) (numbers : List ℕ) (box : Box) (departed : ℕ) → potential l box < n
@@ -257,11 +234,7 @@ admission-weight : (box : Box) (c : Connection) (answer : Admitted)
     → (afterAdmission box c answer .counter ≡ box .counter) × (weight (afterAdmission box c answer) ≡ weight box)
 unfolding afterAdmission withStanding weight
 admission-weight box c (Admitted.Taken n) = (refl, refl)
-admission-weight box c Admitted.NotSound = (refl, refl)
-admission-weight box c Admitted.OffRange = (refl, refl)
-admission-weight box c Admitted.TableFull = (refl, refl)
-admission-weight box c Admitted.RateExceeded = (refl, refl)
-admission-weight box c (Admitted.ConditionFails t) = (refl, refl)
+admission-weight box c (Admitted.Refused why) = (refl, refl)
 
 pub admissions-weight : (place : ℕ) (cs : List Connection) (box : Box)
     → (admitAll place cs box .box .counter ≡ box .counter) × (weight (admitAll place cs box .box) ≡ weight box)

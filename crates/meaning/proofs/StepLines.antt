@@ -8,6 +8,7 @@ use native.Mathlib.Omega.{arith}
 use lib.ListN.{length, length-append}
 use lib.Dec.{leb, eqb}
 use Rattle.laws.specs.Tests.{every-at}
+use Rattle.meaning.specs.declared.Refusal.{Refusal}
 use Rattle.meaning.specs.declared.Stepped.{Stepped}
 use Rattle.meaning.specs.Numbers.{lastSlot}
 use Rattle.meaning.specs.Queues.{turned, lowestHead, withoutLowestHead, tagZeroWaits}
@@ -96,19 +97,21 @@ sent-printed numbers box e s =
         go true = λ k m. subst PrintedLine (sym (List·Memᴰ·eq-of-singleton m)) (line p (h p (List·Memᴰ·head refl)))
         go false = λ k m. absurd (List·Memᴰ·not-nil m)
 
--- How a step of a sound box goes: it is refused with a number that ends the run, or it moves the box.
+-- How a step of a sound box goes: it moves the box, or it is refused and ends the run.
 pub data Outcome (box : Box) : Stepped → Type 0 where
   moves : Outcome box (sentAnswer (suc (box .counter)) (linkTaken (box .link) (box .queues)))
-  ends : Outcome box Stepped.CounterEnded
-  blocks : Outcome box Stepped.TurnBlocked
+  refuses : (why : Refusal) → Outcome box (Stepped.Refused why)
 
 pub outcome : (box : Box) → sound box ≡ true → Outcome box (stepAnswer box)
 unfolding stepAnswer
 outcome box e = rw e (go (leb lastSlot (box .counter)) (turnDue box && tagZeroWaits (queuesTaken (box .link) (box .queues))))
   where
-    go : (a b : Bool) → Outcome box (cond a Stepped.CounterEnded (cond b Stepped.TurnBlocked (sentAnswer (suc (box .counter)) (linkTaken (box .link) (box .queues)))))
-    go true b = ends
-    go false true = blocks
+    go : (a b : Bool)
+        → Outcome box
+        (cond a (Stepped.Refused Refusal.CounterEnded)
+        (cond b (Stepped.Refused Refusal.TurnBlocked) (sentAnswer (suc (box .counter)) (linkTaken (box .link) (box .queues)))))
+    go true b = refuses Refusal.CounterEnded
+    go false true = refuses Refusal.TurnBlocked
     go false false = moves
 
 pub sent-number : (departure : ℕ) (link : Link) → stepped (sentAnswer departure link) .number ≡ 0

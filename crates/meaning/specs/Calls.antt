@@ -7,6 +7,7 @@ use lib.ListN.{length, getD, set}
 use lib.Dec.{leb, ltb}
 use Rattle.laws.specs.Tests.{within}
 use Rattle.laws.specs.Search.{Search, failsAt, holds}
+use Rattle.meaning.specs.declared.Refusal.{Refusal}
 use Rattle.meaning.specs.declared.Opened.{Opened}
 use Rattle.meaning.specs.declared.Admitted.{Admitted}
 use Rattle.meaning.specs.declared.Offered.{Offered}
@@ -27,8 +28,8 @@ newBox opening = record { settings = opening; standing = []; counter = 0; accept
 -- "Opening: 2, 17": a box takes `size` words, and `lent` words are lent.
 unfoldable pub openingAnswer : ℕ → ℕ → Settings → Opened
 openingAnswer size lent opening =
-    cond (not (settingsAllowed opening)) Opened.OffRange
-    (cond (ltb lent size) Opened.TooShort
+    cond (not (settingsAllowed opening)) (Opened.Refused Refusal.SettingsOffRange)
+    (cond (ltb lent size) (Opened.Refused Refusal.TooShort)
     Opened.Done)
 
 -- "the set with the newcomer".
@@ -37,16 +38,16 @@ withNewcomer box c = connections box ++ (c ∷ [])
 
 -- "The search stops at the first t that fails and answers that t"; else the newcomer has this number.
 unfoldable pub searchAnswer : ℕ → Search → Admitted
-searchAnswer n (failsAt t) = Admitted.ConditionFails t
+searchAnswer n (failsAt t) = Admitted.Refused (Refusal.ConditionFails t)
 searchAnswer n holds = Admitted.Taken n
 
 -- "Admission: 1, 3, 4, 5, 6"; connections are "numbered from 1 as admitted".
 unfoldable pub admissionAnswer : Box → Connection → Admitted
 admissionAnswer box c =
-    cond (not (sound box)) Admitted.NotSound
-    (cond (not (connectionAllowed (box .settings) c)) Admitted.OffRange
-    (cond (leb mostConnections (length (box .standing))) Admitted.TableFull
-    (cond (not (rateHolds (box .settings) (withNewcomer box c))) Admitted.RateExceeded
+    cond (not (sound box)) (Admitted.Refused Refusal.NotSound)
+    (cond (not (connectionAllowed (box .settings) c)) (Admitted.Refused Refusal.ConnectionOffRange)
+    (cond (leb mostConnections (length (box .standing))) (Admitted.Refused Refusal.TableFull)
+    (cond (not (rateHolds (box .settings) (withNewcomer box c))) (Admitted.Refused Refusal.RateExceeded)
     (searchAnswer (suc (length (box .standing))) (finiteSearch (box .settings) (withNewcomer box c))))))
 
 -- The box with these connections standing.
@@ -64,11 +65,7 @@ withStanding box rows =
 -- After an admission: a taken connection stands with a fresh allowance. "A refused admission changes nothing."
 unfoldable pub afterAdmission : Box → Connection → Admitted → Box
 afterAdmission box c (Admitted.Taken n) = withStanding box (box .standing ++ (record { asked = c; allowance = full c } ∷ []))
-afterAdmission box c Admitted.NotSound = box
-afterAdmission box c Admitted.OffRange = box
-afterAdmission box c Admitted.TableFull = box
-afterAdmission box c Admitted.RateExceeded = box
-afterAdmission box c (Admitted.ConditionFails t) = box
+afterAdmission box c (Admitted.Refused why) = box
 
 -- The allowance of the connection of this number.
 unfoldable pub allowance : Box → ℕ → Allowance
@@ -77,11 +74,11 @@ allowance box n = getD (map (λ s. s .allowance) (box .standing)) (n - 1) (full 
 -- "Offer: 1, 7, 8, 9, 10"; "Serials count accepted packets from 1."
 unfoldable pub offerAnswer : Box → ℕ → ℕ → Offered
 offerAnswer box n units =
-    cond (not (sound box)) Offered.NotSound
-    (cond (not (stands box n)) Offered.NoConnection
-    (cond (not (within 1 units (connection box n .longest))) Offered.WrongLength
-    (cond (not (conforms (connection box n) (allowance box n) (box .counter))) Offered.NotFitting
-    (cond (leb mostWaiting (length (waiting box))) Offered.StoreFull
+    cond (not (sound box)) (Offered.Refused Refusal.NotSound)
+    (cond (not (stands box n)) (Offered.Refused Refusal.NoConnection)
+    (cond (not (within 1 units (connection box n .longest))) (Offered.Refused Refusal.WrongLength)
+    (cond (not (conforms (connection box n) (allowance box n) (box .counter))) (Offered.Refused Refusal.NotFitting)
+    (cond (leb mostWaiting (length (waiting box))) (Offered.Refused Refusal.StoreFull)
     (Offered.Accepted (suc (box .accepted)))))))
 
 -- The connections that stand, with the allowance of this one charged.
@@ -105,8 +102,4 @@ afterOffer box n units (Offered.Accepted serial) =
       link = box .link;
       queues = joined box (record { serial = serial; connection = n; units = units; arrival = box .counter });
     }
-afterOffer box n units Offered.NotSound = box
-afterOffer box n units Offered.NoConnection = box
-afterOffer box n units Offered.WrongLength = box
-afterOffer box n units Offered.NotFitting = box
-afterOffer box n units Offered.StoreFull = box
+afterOffer box n units (Offered.Refused why) = box

@@ -10,3 +10,4 @@ pub mod Step
 pub mod Plan
 pub mod Run
 pub mod Lines
+pub mod Rest

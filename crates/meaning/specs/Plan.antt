@@ -8,6 +8,7 @@ use Rattle.laws.specs.Tests.{every}
 use Rattle.laws.specs.Lists.{keep}
 use Rattle.laws.specs.Sums.{sumOf}
 use Rattle.meaning.specs.declared.Header.{Header}
+use Rattle.meaning.specs.declared.Refusal.{Refusal}
 use Rattle.meaning.specs.declared.PlanRead.{PlanRead}
 use Rattle.meaning.specs.declared.PlanWritten.{PlanWritten}
 use Rattle.meaning.specs.declared.Connection.{Connection}
@@ -134,10 +135,10 @@ slotsWrong arrivals = not (neverFallingFrom 0 arrivals && every (λ a. leb (a .s
 -- "Reading: 13, 14, 15, 16." "The whole sum is tested before any later field is believed."
 unfoldable pub readingAnswer : List ℕ → PlanRead
 readingAnswer bytes =
-    cond (sizeWrong bytes) PlanRead.WrongSize
-    (cond (sumWrong (wordsOf bytes)) PlanRead.WrongSum
-    (cond (layoutWrong (length bytes) (headerOf (wordsOf bytes))) PlanRead.WrongLayout
-    (cond (slotsWrong (contentsOf (wordsOf bytes) (headerOf (wordsOf bytes)) .arrivals)) PlanRead.WrongSlots
+    cond (sizeWrong bytes) (PlanRead.Refused Refusal.WrongSize)
+    (cond (sumWrong (wordsOf bytes)) (PlanRead.Refused Refusal.WrongSum)
+    (cond (layoutWrong (length bytes) (headerOf (wordsOf bytes))) (PlanRead.Refused Refusal.WrongLayout)
+    (cond (slotsWrong (contentsOf (wordsOf bytes) (headerOf (wordsOf bytes)) .arrivals)) (PlanRead.Refused Refusal.WrongSlots)
     (PlanRead.Good (headerOf (wordsOf bytes))))))
 
 -- The words of an entry of each table.
@@ -210,9 +211,9 @@ lentWrong l =
 -- "Writing: 15, 16, 17": into so many bytes.
 unfoldable pub writingAnswer : Lent → ℕ → PlanWritten
 writingAnswer l room =
-    cond (lentWrong l) PlanWritten.WrongLayout
-    (cond (slotsWrong (lentPlan l .arrivals)) PlanWritten.WrongSlots
-    (cond (ltb room (sizeOf (lentPlan l))) PlanWritten.TooShort
+    cond (lentWrong l) (PlanWritten.Refused Refusal.WrongLayout)
+    (cond (slotsWrong (lentPlan l .arrivals)) (PlanWritten.Refused Refusal.WrongSlots)
+    (cond (ltb room (sizeOf (lentPlan l))) (PlanWritten.Refused Refusal.TooShort)
     (PlanWritten.Written (sizeOf (lentPlan l)))))
 
 -- "The arrivals of one slot": those of the list whose slot it is, in the list's order.

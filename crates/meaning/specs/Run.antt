@@ -14,7 +14,7 @@ use Rattle.meaning.specs.declared.Stepped.{Stepped}
 use Rattle.meaning.specs.declared.PlanRead.{PlanRead}
 use Rattle.meaning.specs.declared.Connection.{Connection}
 use Rattle.meaning.specs.Box.{Box, packets}
-use Rattle.meaning.specs.Answers.{opened, admitted, offered, stepped, planRead}
+use Rattle.meaning.specs.Answers.{refusalNumber, admitted, offered, stepped}
 use Rattle.meaning.specs.Calls.{newBox, openingAnswer, admissionAnswer, afterAdmission, offerAnswer, afterOffer}
 use Rattle.meaning.specs.Step.{stepAnswer, afterStep}
 use Rattle.meaning.specs.declared.Arrival.{Arrival}
@@ -84,9 +84,7 @@ departures numbers Stepped.Idle = []
 departures numbers (Stepped.Sending serial left) = []
 departures numbers (Stepped.Departed serial connection arrival departure) =
     departLine serial (placeOf 1 numbers connection) arrival departure ∷ []
-departures numbers Stepped.NotSound = []
-departures numbers Stepped.CounterEnded = []
-departures numbers Stepped.TurnBlocked = []
+departures numbers (Stepped.Refused why) = []
 
 -- How a run stands before a slot: it goes on, it is at its end, or a step was refused with this number.
 pub data Phase : Type 0 where
@@ -132,19 +130,16 @@ openRun plan =
     slots (slotsEnough arrivals) (phase arrivals (admissions .box) 0) arrivals (admissions .numbers) (admissions .box) 0
 
 -- "opens a box": the program lends as many words as a box takes, so only 2 can be answered.
-unfoldable pub planRun : Plan → ℕ → List Line
-planRun plan zero = openRun plan
-planRun plan (suc n) = refusedLine (suc n) ∷ []
+unfoldable pub planRun : Plan → Opened → List Line
+planRun plan Opened.Done = openRun plan
+planRun plan (Opened.Refused why) = refusedLine (refusalNumber why) ∷ []
 
 -- "A plan refused by reading or opening prints only `REFUSED` and the number."
 unfoldable pub readRun : List ℕ → PlanRead → List Line
 readRun bytes (PlanRead.Good h) =
     let plan = contentsOf (wordsOf bytes) h in
-    planRun plan (opened (openingAnswer 0 0 (plan .settings)) .number)
-readRun bytes PlanRead.WrongSize = refusedLine (planRead PlanRead.WrongSize .number) ∷ []
-readRun bytes PlanRead.WrongSum = refusedLine (planRead PlanRead.WrongSum .number) ∷ []
-readRun bytes PlanRead.WrongLayout = refusedLine (planRead PlanRead.WrongLayout .number) ∷ []
-readRun bytes PlanRead.WrongSlots = refusedLine (planRead PlanRead.WrongSlots .number) ∷ []
+    planRun plan (openingAnswer 0 0 (plan .settings))
+readRun bytes (PlanRead.Refused why) = refusedLine (refusalNumber why) ∷ []
 
 -- "It reads a plan on standard input": the lines for these bytes.
 unfoldable pub run : List ℕ → List Line

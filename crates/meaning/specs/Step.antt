@@ -4,6 +4,7 @@ use mathlib.Core.Bool.{Bool, cond, not, _&&_}
 use mathlib.Core.List.{List}
 use mathlib.Core.Option.{Option, none, some}
 use lib.Dec.{leb}
+use Rattle.meaning.specs.declared.Refusal.{Refusal}
 use Rattle.meaning.specs.declared.Stepped.{Stepped}
 use Rattle.meaning.specs.Numbers.{lastSlot}
 use Rattle.meaning.specs.Queues.{turnAt, turned, lowestHead, withoutLowestHead, tagZeroWaits}
@@ -43,9 +44,9 @@ turnDue box = turnAt (box .settings .interval) (suc (box .counter))
 -- "Step: 1, 12, 11"; "the step would turn the queues while tag 0 still has a waiting packet".
 unfoldable pub stepAnswer : Box → Stepped
 stepAnswer box =
-    cond (not (sound box)) Stepped.NotSound
-    (cond (leb lastSlot (box .counter)) Stepped.CounterEnded
-    (cond (turnDue box && tagZeroWaits (queuesTaken (box .link) (box .queues))) Stepped.TurnBlocked
+    cond (not (sound box)) (Stepped.Refused Refusal.NotSound)
+    (cond (leb lastSlot (box .counter)) (Stepped.Refused Refusal.CounterEnded)
+    (cond (turnDue box && tagZeroWaits (queuesTaken (box .link) (box .queues))) (Stepped.Refused Refusal.TurnBlocked)
     (sentAnswer (suc (box .counter)) (linkTaken (box .link) (box .queues)))))
 
 -- The queues after the step: turned if due.
@@ -70,6 +71,4 @@ unfoldable pub afterStep : Box → Stepped → Box
 afterStep box Stepped.Idle = moved box
 afterStep box (Stepped.Sending serial left) = moved box
 afterStep box (Stepped.Departed serial connection arrival departure) = moved box
-afterStep box Stepped.NotSound = box
-afterStep box Stepped.CounterEnded = box
-afterStep box Stepped.TurnBlocked = box
+afterStep box (Stepped.Refused why) = box

@@ -36,33 +36,45 @@ pub struct Arrival {
     pub units: u32,
 }
 
-// The answers of the calls. Document 01's number and values for every case are in specs/Answers.antt.
-
-// Opening a box.
-pub enum Opened {
-    Done,
-    OffRange,
-    TooShort,
-}
-
-// Admission: the connection's number, or the refusal; ConditionFails gives the first t at which (11) or (12) fails.
-pub enum Admitted {
-    Taken(u32),
+// Why a call refuses: the rows of document 01's "Answer numbers", in their order. Their numbers are in specs/Answers.antt.
+pub enum Refusal {
     NotSound,
-    OffRange,
+    SettingsOffRange,
+    ConnectionOffRange,
     TableFull,
     RateExceeded,
     ConditionFails(u32),
-}
-
-// Offering a packet: its serial, or the refusal.
-pub enum Offered {
-    Accepted(u32),
-    NotSound,
     NoConnection,
     WrongLength,
     NotFitting,
     StoreFull,
+    TurnBlocked,
+    CounterEnded,
+    WrongSize,
+    WrongSum,
+    WrongLayout,
+    WrongSlots,
+    TooShort,
+}
+
+// The answers of the calls: what is done, or why it is refused. Their numbers and values are in specs/Answers.antt.
+
+// Opening a box.
+pub enum Opened {
+    Done,
+    Refused(Refusal),
+}
+
+// Admission: the connection's number.
+pub enum Admitted {
+    Taken(u32),
+    Refused(Refusal),
+}
+
+// Offering a packet: its serial.
+pub enum Offered {
+    Accepted(u32),
+    Refused(Refusal),
 }
 
 // A step.
@@ -78,9 +90,7 @@ pub enum Stepped {
         arrival: u32,
         departure: u32,
     },
-    NotSound,
-    CounterEnded,
-    TurnBlocked,
+    Refused(Refusal),
 }
 
 // A table of a plan: how many entries it has, and the byte at which it starts.
@@ -98,19 +108,20 @@ pub struct Header {
     pub arrivals: Table,
 }
 
-// Reading a plan: its header, or the refusal.
+// Reading a plan: its header.
 pub enum PlanRead {
     Good(Header),
-    WrongSize,
-    WrongSum,
-    WrongLayout,
-    WrongSlots,
+    Refused(Refusal),
 }
 
-// Writing a plan: the number of bytes written, or the refusal.
+// Writing a plan: the number of bytes written.
 pub enum PlanWritten {
     Written(usize),
-    WrongLayout,
-    WrongSlots,
-    TooShort,
+    Refused(Refusal),
+}
+
+// Printing the run of a plan: the number of bytes written.
+pub enum Printed {
+    Written(usize),
+    Refused(Refusal),
 }

@@ -72,5 +72,4 @@ opening-keeps-beyond set ws = go (openingAnswer boxWords (length ws) set) refl
     go : (r : Opened) → openingAnswer boxWords (length ws) set ≡ r → BeyondKept ws (afterOpening set ws r)
     go Opened.Done e =
         unfold afterOpening in put-beyond (newBox set) ws (new-box-sound set (opened-allowed set ws (unfold opened in e))) (words-enough set ws (unfold opened in e))
-    go Opened.OffRange e = unfold afterOpening in (refl, refl)
-    go Opened.TooShort e = unfold afterOpening in (refl, refl)
+    go (Opened.Refused why) e = unfold afterOpening in (refl, refl)

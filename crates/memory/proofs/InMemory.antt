@@ -8,6 +8,7 @@ use mathlib.Core.Logic.{_⊎_, _↔_}
 use lib.ListN.{length}
 use Rattle.laws.specs.Tests.{within}
 use Rattle.laws.specs.Finding.{Least}
+use Rattle.meaning.specs.declared.Refusal.{Refusal}
 use Rattle.meaning.specs.declared.Opened.{Opened}
 use Rattle.meaning.specs.declared.Admitted.{Admitted}
 use Rattle.meaning.specs.declared.Offered.{Offered}
@@ -63,11 +64,11 @@ module _ (ws : List ℕ) (h : soundWords ws ≡ true) (c : Connection) where
   taken-exactly-when = rw admission-there (Admitting.taken-exactly-when (contents ws) c (sound-contents ws h))
 
   -- The t given with 6 is the least that fails.
-  pub least-that-fails : (t : ℕ) → admission ws c ≡ Admitted.ConditionFails t → Least (conditionAt (contents ws .settings) (withNewcomer (contents ws) c)) 0 t
+  pub least-that-fails : (t : ℕ) → admission ws c ≡ Admitted.Refused (Refusal.ConditionFails t) → Least (conditionAt (contents ws .settings) (withNewcomer (contents ws) c)) 0 t
   least-that-fails = rw admission-there (Admitting.least-that-fails (contents ws) c)
 
   -- With answer 5 some t fails too.
-  pub rate-fails-somewhere : admission ws c ≡ Admitted.RateExceeded →
+  pub rate-fails-somewhere : admission ws c ≡ (Admitted.Refused Refusal.RateExceeded) →
       (t : ℕ) × (conditionAt (contents ws .settings) (withNewcomer (contents ws) c) t ≡ false)
   rate-fails-somewhere = rw admission-there (Admitting.rate-fails-somewhere (contents ws) c)
 
@@ -99,7 +100,7 @@ module _ (set : Settings) (ws : List ℕ) (done : opened set ws .0 ≡ Opened.Do
       within 1 units (connection (openedBox set ws calls) n .longest) ≡ true →
       fits (mayHave (connection (openedBox set ws calls) n)) (slotsOf n (acceptedIn (openedTrace set ws calls))) (openedBox set ws calls .counter) ≡ true →
       (offering (openedWords set ws calls) n units ≡ Offered.Accepted (suc (openedBox set ws calls .accepted))) ⊎
-      ((offering (openedWords set ws calls) n units ≡ Offered.StoreFull) × (length (waiting (openedBox set ws calls)) ≡ mostWaiting))
+      ((offering (openedWords set ws calls) n units ≡ (Offered.Refused Refusal.StoreFull)) × (length (waiting (openedBox set ws calls)) ≡ mostWaiting))
   turned-away-only-when-full n units =
       rw (offer-there (openedWords set ws calls) every-run-sound n units, box, events)
       (Statements.turned-away-only-when-full set (opened-allowed set ws done) calls n units)
@@ -107,7 +108,7 @@ module _ (set : Settings) (ws : List ℕ) (done : opened set ws .0 ≡ Opened.Do
   -- Answer 9 is given to an offer of permitted length exactly when the packet does not fit the envelope.
   pub nine-exactly-when-it-does-not-fit : (n units : ℕ) → stands (openedBox set ws calls) n ≡ true →
       within 1 units (connection (openedBox set ws calls) n .longest) ≡ true →
-      (offering (openedWords set ws calls) n units ≡ Offered.NotFitting) ↔
+      (offering (openedWords set ws calls) n units ≡ (Offered.Refused Refusal.NotFitting)) ↔
       (fits (mayHave (connection (openedBox set ws calls) n)) (slotsOf n (acceptedIn (openedTrace set ws calls))) (openedBox set ws calls .counter) ≡ false)
   nine-exactly-when-it-does-not-fit n units =
       rw (offer-there (openedWords set ws calls) every-run-sound n units, box, events)
@@ -156,7 +157,7 @@ module _ (set : Settings) (ws : List ℕ) (done : opened set ws .0 ≡ Opened.Do
   never-late = rw (box, events) (Statements.never-late set (opened-allowed set ws done) calls)
 
   -- Answer 11 is never given in a run.
-  pub turn-never-blocked : stepping (openedWords set ws calls) ≡ Stepped.TurnBlocked → ⊥
+  pub turn-never-blocked : stepping (openedWords set ws calls) ≡ (Stepped.Refused Refusal.TurnBlocked) → ⊥
   turn-never-blocked =
       rw (step-there (openedWords set ws calls) every-run-sound, box) (Turning.turn-never-blocked set (opened-allowed set ws done) calls)
 

@@ -10,6 +10,7 @@ use lib.Dec.{leb}
 use borrow.Author.Tests.{le-leb, lt-leb}
 use Rattle.laws.specs.Tests.{within, within-facts}
 use Rattle.laws.specs.Series.{length-series, getD-series}
+use Rattle.meaning.specs.declared.Refusal.{Refusal}
 use Rattle.meaning.specs.declared.Offered.{Offered}
 use Rattle.meaning.specs.declared.Connection.{Connection}
 use Rattle.meaning.specs.Numbers.{classCount, factor, largestFactor, mostWaiting, lastSlot}
@@ -33,7 +34,6 @@ use Rattle.words.proofs.Counts.{sound-fitting, waiting-count}
 use Rattle.words.proofs.PutContents.{row-count}
 use Rattle.words.proofs.TestedSound.{sound-contents}
 use Rattle.words.proofs.Becoming.{become-then}
-use Rattle.words.proofs.TableReads.{factor-at}
 use Rattle.admission.proofs.Tables.{class-count}
 use Rattle.envelope.specs.Record.{sender, Ready}
 use Rattle.multiplexer.specs.Promised.{Leaves, RowReady, Acceptable, acceptedBox}
@@ -101,18 +101,13 @@ number-within ws n s =
     let r = row-count ws in
     (k .0, omega arith)
 
--- The tag of a class: the factor that lies at word 2 + class.
-pub tag-is : (ws : List ℕ) (class : ℕ) → soundWords ws ≡ true → 1 ≤ class → class ≤ word ws classesAt
-    → (word ws (factorsAt - 1 + class) ≡ factor (contents ws .settings) class) × (word ws (factorsAt - 1 + class) ≤ largestFactor (contents ws .settings))
+-- The tag of a class is at most that of the last queue.
+pub tag-most : (ws : List ℕ) (class : ℕ) → soundWords ws ≡ true → 1 ≤ class → class ≤ word ws classesAt
+    → factor (contents ws .settings) class ≤ largestFactor (contents ws .settings)
 unfolding contents
-tag-is ws class h a b =
-    let e = factor-at ws class a b in
+tag-most ws class h a b =
     let k = class-count ws in
-    let m = factor-within (settingsAt ws) class (settings-facts (settingsAt ws) (facts ws h .settings-allowed)) a (omega arith) in
-    (sym e, omega arith)
-
-pub classes-most : (ws : List ℕ) → soundWords ws ≡ true → word ws classesAt ≤ 8
-classes-most ws h = sound-fitting ws h .classes
+    factor-within (settingsAt ws) class (settings-facts (settingsAt ws) (facts ws h .settings-allowed)) a (omega arith)
 
 -- The count of accepted packets of sound words is far below 2^32.
 pub accepted-most : (ws : List ℕ) → soundWords ws ≡ true → contents ws .accepted ≤ 4000001025
@@ -224,21 +219,21 @@ packet-is ws n units serial slot e f =
 
 -- The answers of an offer on sound contents, in their order.
 module _ (b : Box) (n units : ℕ) (s : sound b ≡ true) where
-  pub answer-unknown : stands b n ≡ false → Offered.NoConnection ≡ offerAnswer b n units
+  pub answer-unknown : stands b n ≡ false → (Offered.Refused Refusal.NoConnection) ≡ offerAnswer b n units
   unfolding offerAnswer
   answer-unknown e = rw (s, e) refl
 
-  pub answer-length : stands b n ≡ true → within 1 units (connection b n .longest) ≡ false → Offered.WrongLength ≡ offerAnswer b n units
+  pub answer-length : stands b n ≡ true → within 1 units (connection b n .longest) ≡ false → (Offered.Refused Refusal.WrongLength) ≡ offerAnswer b n units
   unfolding offerAnswer
   answer-length e f = rw (s, e, f) refl
 
   pub answer-unfit : stands b n ≡ true → within 1 units (connection b n .longest) ≡ true → conforms (connection b n) (allowance b n) (b .counter) ≡ false
-      → Offered.NotFitting ≡ offerAnswer b n units
+      → (Offered.Refused Refusal.NotFitting) ≡ offerAnswer b n units
   unfolding offerAnswer
   answer-unfit e f g = rw (s, e, f, g) refl
 
   pub answer-full : stands b n ≡ true → within 1 units (connection b n .longest) ≡ true → conforms (connection b n) (allowance b n) (b .counter) ≡ true
-      → mostWaiting ≤ length (waiting b) → Offered.StoreFull ≡ offerAnswer b n units
+      → mostWaiting ≤ length (waiting b) → (Offered.Refused Refusal.StoreFull) ≡ offerAnswer b n units
   unfolding offerAnswer
   answer-full e f g h = rw (s, e, f, g, le-leb mostWaiting (length (waiting b)) h) refl
 

@@ -8,12 +8,14 @@ use native.Mathlib.Omega.{arith}
 use lib.ListN.{length}
 use lib.Dec.{leb, eqb}
 use borrow.Author.Tests.{le-leb, lt-leb}
+use Rattle.meaning.specs.declared.Refusal.{Refusal}
 use Rattle.meaning.specs.declared.Stepped.{Stepped}
 use Rattle.meaning.specs.Numbers.{lastSlot}
 use Rattle.meaning.specs.Queues.{turnAt, turned, tagZeroWaits}
 use Rattle.meaning.specs.declared.Packet.{Packet}
 use Rattle.meaning.specs.Box.{Box, Link, free, carries, waiting, sound}
 use Rattle.meaning.specs.Step.{linkTaken, queuesTaken, sentAnswer, linkSent, turnDue, queuesStepped, moved, stepAnswer, afterStep}
+use Rattle.meaning.proofs.Facts.{settings-facts}
 use Rattle.meaning.proofs.TagsAndRanks.{turn-test}
 use Rattle.meaning.proofs.KeptByStep.{sent-moves, step-keeps-sound}
 use Rattle.meaning.proofs.QueueLaws.{turned-length}
@@ -27,12 +29,16 @@ use Rattle.words.proofs.ContentsPut.{link-carries}
 use Rattle.words.proofs.Becoming.{become-then}
 use Rattle.words.proofs.TestedSound.{sound-contents}
 use Rattle.multiplexer.specs.Promised.{Leaves, sentBox}
-use Rattle.multiplexer.proofs.Sounds.{leaves-same, leaves}
+use Rattle.multiplexer.proofs.Sounds.{facts, leaves-same, leaves}
 
 -- The turn, as the code tests it.
-pub turn-is : (ws : List ℕ) → eqb ((contents ws .counter + 1) % word ws intervalAt) 0 ≡ turnDue (contents ws)
-unfolding turnDue contents settingsAt
-turn-is ws = rw (add-one (word ws counterAt)) (sym (turn-test (word ws intervalAt) (word ws counterAt)))
+pub turn-is : (box : Box) → eqb ((box .counter + 1) % box .settings .interval) 0 ≡ turnDue box
+unfolding turnDue
+turn-is box = rw (add-one (box .counter)) (sym (turn-test (box .settings .interval) (box .counter)))
+
+-- The interval of sound words is at least 1.
+pub interval-positive : (ws : List ℕ) → soundWords ws ≡ true → 1 ≤ contents ws .settings .interval
+interval-positive ws h = settings-facts (contents ws .settings) (facts ws h .settings-allowed) .interval-least
 
 -- The unit sent, by what the link words say.
 module _ (box : Box) (departure : ℕ) (p : Packet) where
@@ -129,12 +135,12 @@ module _ (ws w₁ w₂ : List ℕ) (loads : Become ws w₁ (loadedBox (contents 
       subst (Become ws w₃) (ap raised sent-box ∙ raised-moved) three
 
 -- The three answers of a step on sound contents.
-ended-answer : (b : Box) → sound b ≡ true → lastSlot ≤ b .counter → Stepped.CounterEnded ≡ stepAnswer b
+ended-answer : (b : Box) → sound b ≡ true → lastSlot ≤ b .counter → (Stepped.Refused Refusal.CounterEnded) ≡ stepAnswer b
 unfolding stepAnswer
 ended-answer b s l = rw (s, le-leb lastSlot (b .counter) l) refl
 
 blocked-answer : (b : Box) → sound b ≡ true → b .counter < lastSlot → (turnDue b && tagZeroWaits (queuesTaken (b .link) (b .queues))) ≡ true
-    → Stepped.TurnBlocked ≡ stepAnswer b
+    → (Stepped.Refused Refusal.TurnBlocked) ≡ stepAnswer b
 unfolding stepAnswer
 blocked-answer b s l e = rw (s, lt-leb lastSlot (b .counter) l, e) refl
 
@@ -151,14 +157,14 @@ module _ (ws : List ℕ) (h : soundWords ws ≡ true) where
   refused : (r : Stepped) → r ≡ answer → afterStep (contents ws) r ≡ contents ws → (r ≡ answer) × Leaves ws ws (afterStep (contents ws) answer)
   refused r e same = (e, subst (Leaves ws ws) (sym same ∙ ap (afterStep (contents ws)) e) (leaves-same ws h))
 
-  pub at-end : lastSlot ≤ contents ws .counter → (Stepped.CounterEnded ≡ answer) × Leaves ws ws (afterStep (contents ws) answer)
+  pub at-end : lastSlot ≤ contents ws .counter → ((Stepped.Refused Refusal.CounterEnded) ≡ answer) × Leaves ws ws (afterStep (contents ws) answer)
   unfolding afterStep
-  at-end l = refused Stepped.CounterEnded (ended-answer (contents ws) (sound-contents ws h) l) refl
+  at-end l = refused (Stepped.Refused Refusal.CounterEnded) (ended-answer (contents ws) (sound-contents ws h) l) refl
 
   pub at-block : contents ws .counter < lastSlot → (turnDue (contents ws) && tagZeroWaits (queuesTaken (contents ws .link) (contents ws .queues))) ≡ true
-      → (Stepped.TurnBlocked ≡ answer) × Leaves ws ws (afterStep (contents ws) answer)
+      → ((Stepped.Refused Refusal.TurnBlocked) ≡ answer) × Leaves ws ws (afterStep (contents ws) answer)
   unfolding afterStep
-  at-block l b = refused Stepped.TurnBlocked (blocked-answer (contents ws) (sound-contents ws h) l b) refl
+  at-block l b = refused (Stepped.Refused Refusal.TurnBlocked) (blocked-answer (contents ws) (sound-contents ws h) l b) refl
 
   pub at-move : (after : List ℕ) (r : Stepped) → contents ws .counter < lastSlot
       → (turnDue (contents ws) && tagZeroWaits (queuesTaken (contents ws .link) (contents ws .queues))) ≡ false

@@ -4,6 +4,7 @@ use Prim.Native.Nat.{ℕ, suc, _≤_, _<_}
 use mathlib.Core.Path.{_≡_}
 use mathlib.Core.Bool.{Bool, true, cond}
 use mathlib.Core.List.{List}
+use Rattle.meaning.specs.declared.Refusal.{Refusal}
 use Rattle.meaning.specs.declared.Admitted.{Admitted}
 use Rattle.meaning.specs.declared.Offered.{Offered}
 use Rattle.meaning.specs.declared.Stepped.{Stepped}
@@ -27,21 +28,21 @@ wordsAfter ws box = cond (soundWords ws) (put box ws) ws
 
 -- Admission.
 unfoldable pub admission : List ℕ → Connection → Admitted
-admission ws c = cond (soundWords ws) (admissionAnswer (contents ws) c) Admitted.NotSound
+admission ws c = cond (soundWords ws) (admissionAnswer (contents ws) c) (Admitted.Refused Refusal.NotSound)
 
 unfoldable pub wordsAdmitted : List ℕ → Connection → List ℕ
 wordsAdmitted ws c = wordsAfter ws (afterAdmission (contents ws) c (admissionAnswer (contents ws) c))
 
 -- Offering a packet.
 unfoldable pub offering : List ℕ → ℕ → ℕ → Offered
-offering ws n units = cond (soundWords ws) (offerAnswer (contents ws) n units) Offered.NotSound
+offering ws n units = cond (soundWords ws) (offerAnswer (contents ws) n units) (Offered.Refused Refusal.NotSound)
 
 unfoldable pub wordsOffered : List ℕ → ℕ → ℕ → List ℕ
 wordsOffered ws n units = wordsAfter ws (afterOffer (contents ws) n units (offerAnswer (contents ws) n units))
 
 -- A step.
 unfoldable pub stepping : List ℕ → Stepped
-stepping ws = cond (soundWords ws) (stepAnswer (contents ws)) Stepped.NotSound
+stepping ws = cond (soundWords ws) (stepAnswer (contents ws)) (Stepped.Refused Refusal.NotSound)
 
 unfoldable pub wordsStepped : List ℕ → List ℕ
 wordsStepped ws = wordsAfter ws (afterStep (contents ws) (stepAnswer (contents ws)))

@@ -5,10 +5,13 @@ use admission::rate;
 use meaning::Admitted;
 use meaning::Allowance;
 use meaning::Connection;
+use meaning::Refusal;
 use meaning::Standing;
 use soundness::testing::is_sound;
 use tables::rows::append_row;
 use tables::rows::standing_count;
+use tables::settings::class_count;
+use tables::settings::cycle;
 use words::numbers::is_within;
 ghost use mathlib.Core.Path.{_≡_};
 ghost use mathlib.Core.Bool.{true};
@@ -23,9 +26,8 @@ fn allowed(ws: &[u32], c: Connection) -> bool
     requires { ⌜ soundWords (now ws) ≡ true ⌝ }
     ensures { λ r. ⌜ r ≡ connectionAllowed (contents (now (ws .entry)) .settings) c ⌝ }
 {
-    let cycle = ws[1];
     let period = c.period;
-    if !is_within(1, c.class, ws[2]) {
+    if !is_within(1, c.class, class_count(ws)) {
         return false;
     }
     if !is_within(1, c.longest, 64) {
@@ -34,10 +36,10 @@ fn allowed(ws: &[u32], c: Connection) -> bool
     if !is_within(1, c.burst, 64) {
         return false;
     }
-    if !is_within(1, period, cycle) {
+    if !is_within(1, period, cycle(ws)) {
         return false;
     }
-    cycle % period == 0
+    cycle(ws) % period == 0
 }
 
 // An admission on sound words.
@@ -46,19 +48,19 @@ pub fn admit_sound(ws: &mut [u32], c: Connection) -> Admitted
     ensures { λ r. ⌜ AdmitSoundPromise (now (ws .entry)) c r (now (ws .exit)) ⌝ }
 {
     if !allowed(ws, c) {
-        return Admitted::OffRange;
+        return Admitted::Refused(Refusal::ConnectionOffRange);
     }
     let n = standing_count(ws);
     if 32 <= n {
-        return Admitted::TableFull;
+        return Admitted::Refused(Refusal::TableFull);
     }
     let sum = rate(ws, c);
-    if ws[1] < sum {
-        return Admitted::RateExceeded;
+    if cycle(ws) < sum {
+        return Admitted::Refused(Refusal::RateExceeded);
     }
     let found = first_failing(ws, c);
     match found {
-        Found::FailsAt(t) => Admitted::ConditionFails(t),
+        Found::FailsAt(t) => Admitted::Refused(Refusal::ConditionFails(t)),
         Found::Holds => {
             append_row(ws, fresh_row(c));
             Admitted::Taken(n + 1)
@@ -84,7 +86,7 @@ pub fn admit(ws: &mut [u32], class: u32, longest: u32, burst: u32, period: u32) 
     ensures { λ r. ⌜ AdmitPromise (now (ws .entry)) class longest burst period r (now (ws .exit)) ⌝ }
 {
     if !is_sound(ws) {
-        return Admitted::NotSound;
+        return Admitted::Refused(Refusal::NotSound);
     }
     admit_sound(
         ws,

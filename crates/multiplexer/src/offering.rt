@@ -3,6 +3,7 @@ use envelope::charge_record;
 use envelope::conforming;
 use meaning::Offered;
 use meaning::Packet;
+use meaning::Refusal;
 use meaning::Standing;
 use soundness::testing::is_sound;
 use store::lengths::waiting_count;
@@ -13,6 +14,7 @@ use tables::counter::counter;
 use tables::rows::read_row;
 use tables::rows::standing_count;
 use tables::rows::write_allowance;
+use tables::settings::class_factor;
 use words::numbers::is_within;
 use words::numbers::wide;
 ghost use mathlib.Core.Path.{_≡_};
@@ -32,8 +34,7 @@ fn tag_of(ws: &[u32], class: u32) -> usize
     requires { ⌜ (soundWords (now ws) ≡ true) × ((1 ≤ class) × (class ≤ word (now ws) classesAt)) ⌝ }
     ensures { λ r. ⌜ (r ≡ factor (contents (now (ws .entry)) .settings) class) × (r ≤ largestFactor (contents (now (ws .entry)) .settings)) ⌝ }
 {
-    let at = wide(class);
-    wide(ws[2 + at])
+    wide(class_factor(ws, class))
 }
 
 // The packet is accepted: its connection is charged once, it joins the tail of its queue, and it is counted.
@@ -80,17 +81,17 @@ pub fn offer_sound(ws: &mut [u32], n: u32, units: u32) -> Offered
     ensures { λ r. ⌜ OfferSoundPromise (now (ws .entry)) n units r (now (ws .exit)) ⌝ }
 {
     if !is_within(1, n, standing_count(ws)) {
-        return Offered::NoConnection;
+        return Offered::Refused(Refusal::NoConnection);
     }
     let row = read_row(ws, n);
     if !is_within(1, units, row.asked.longest) {
-        return Offered::WrongLength;
+        return Offered::Refused(Refusal::WrongLength);
     }
     if !fits(row, counter(ws)) {
-        return Offered::NotFitting;
+        return Offered::Refused(Refusal::NotFitting);
     }
     if 1024 <= waiting_count(ws) {
-        return Offered::StoreFull;
+        return Offered::Refused(Refusal::StoreFull);
     }
     Offered::Accepted(accept(ws, n, units, row))
 }
@@ -100,7 +101,7 @@ pub fn offer(ws: &mut [u32], n: u32, units: u32) -> Offered
     ensures { λ r. ⌜ OfferPromise (now (ws .entry)) n units r (now (ws .exit)) ⌝ }
 {
     if !is_sound(ws) {
-        return Offered::NotSound;
+        return Offered::Refused(Refusal::NotSound);
     }
     offer_sound(ws, n, units)
 }

@@ -1,5 +1,6 @@
 // One step. Document 01, "Queues and steps", second paragraph.
 use meaning::Packet;
+use meaning::Refusal;
 use meaning::Stepped;
 use soundness::testing::is_sound;
 use store::queues::load_link;
@@ -8,6 +9,7 @@ use tables::counter::counter;
 use tables::counter::raise_counter;
 use tables::link::read_link;
 use tables::link::write_link;
+use tables::settings::interval;
 ghost use mathlib.Core.Path.{_≡_};
 ghost use mathlib.Core.Bool.{true, false, _&&_};
 ghost use Prim.Native.Nat.{suc, _<_, _≤_};
@@ -26,7 +28,7 @@ fn turn_due(ws: &[u32]) -> bool
     ensures { λ r. ⌜ r ≡ turnDue (contents (now (ws .entry))) ⌝ }
 {
     let next = counter_of(ws) + 1;
-    next % ws[0] == 0
+    next % interval(ws) == 0
 }
 
 // The counter of sound words.
@@ -101,10 +103,10 @@ pub fn step_sound(ws: &mut [u32]) -> Stepped
     ensures { λ r. ⌜ StepSoundPromise (now (ws .entry)) r (now (ws .exit)) ⌝ }
 {
     if 4000000000 <= counter_of(ws) {
-        return Stepped::CounterEnded;
+        return Stepped::Refused(Refusal::CounterEnded);
     }
     if blocked(ws) {
-        return Stepped::TurnBlocked;
+        return Stepped::Refused(Refusal::TurnBlocked);
     }
     move_on(ws)
 }
@@ -114,7 +116,7 @@ pub fn step(ws: &mut [u32]) -> Stepped
     ensures { λ r. ⌜ StepPromise (now (ws .entry)) r (now (ws .exit)) ⌝ }
 {
     if !is_sound(ws) {
-        return Stepped::NotSound;
+        return Stepped::Refused(Refusal::NotSound);
     }
     step_sound(ws)
 }

@@ -6,6 +6,7 @@ use mathlib.Core.List.{List}
 use lib.ListN.{length, take, drop}
 use borrow.Author.Tests.{eq-eqb, ne-eqb}
 use Rattle.meaning.specs.declared.Header.{Header}
+use Rattle.meaning.specs.declared.Refusal.{Refusal}
 use Rattle.meaning.specs.declared.PlanRead.{PlanRead}
 use Rattle.meaning.specs.Plan.{wordsOf, sumWords, headerOf, contentsOf, sizeWrong, sumWrong, layoutWrong, slotsWrong, readingAnswer}
 use Rattle.plan.specs.Parts.{arrivalsIn}
@@ -24,23 +25,23 @@ sum-off ws e = ap not (ne-eqb (sumWords ws) 0 e)
 
 module _ (bytes : List ℕ) where
   -- A size that is wrong is answered first.
-  pub answer-13 : sizeWrong bytes ≡ true → PlanRead.WrongSize ≡ readingAnswer bytes
+  pub answer-13 : sizeWrong bytes ≡ true → (PlanRead.Refused Refusal.WrongSize) ≡ readingAnswer bytes
   unfolding readingAnswer
   answer-13 a = rw a
 
   -- Where the size is right, a sum that is wrong is answered next.
-  pub answer-14 : sizeWrong bytes ≡ false → sumWrong (wordsOf bytes) ≡ true → PlanRead.WrongSum ≡ readingAnswer bytes
+  pub answer-14 : sizeWrong bytes ≡ false → sumWrong (wordsOf bytes) ≡ true → (PlanRead.Refused Refusal.WrongSum) ≡ readingAnswer bytes
   unfolding readingAnswer
   answer-14 a b = rw (a, b)
 
   module _ (h : Header) (header : h ≡ headerOf (wordsOf bytes)) (a : sizeWrong bytes ≡ false) (b : sumWrong (wordsOf bytes) ≡ false) where
     -- Where both are right, a layout that is wrong is answered next.
-    pub answer-15 : layoutWrong (length bytes) h ≡ true → PlanRead.WrongLayout ≡ readingAnswer bytes
+    pub answer-15 : layoutWrong (length bytes) h ≡ true → (PlanRead.Refused Refusal.WrongLayout) ≡ readingAnswer bytes
     unfolding readingAnswer
     answer-15 e = rw (a, b, ← header, e)
 
     -- Where the layout is right too, slots that are wrong are answered last.
-    pub answer-16 : layoutWrong (length bytes) h ≡ false → slotsWrongIn bytes h ≡ true → PlanRead.WrongSlots ≡ readingAnswer bytes
+    pub answer-16 : layoutWrong (length bytes) h ≡ false → slotsWrongIn bytes h ≡ true → (PlanRead.Refused Refusal.WrongSlots) ≡ readingAnswer bytes
     unfolding readingAnswer slotsWrongIn
     answer-16 e f = rw (a, b, ← header, e, f)
 

@@ -12,6 +12,7 @@ use Rattle.laws.specs.Tests.{bool-cases}
 use Rattle.meaning.specs.declared.Connection.{Connection}
 use Rattle.meaning.specs.declared.Header.{Header}
 use Rattle.meaning.specs.declared.Table.{Table}
+use Rattle.meaning.specs.declared.Refusal.{Refusal}
 use Rattle.meaning.specs.declared.PlanRead.{PlanRead}
 use Rattle.meaning.specs.declared.Arrival.{Arrival}
 use Rattle.meaning.specs.Plan.{wordsOf, headerOf, contentsOf, sizeWrong, sumWrong, layoutWrong, slotsWrong, neverFallingFrom, readingAnswer}
@@ -26,23 +27,20 @@ use Rattle.plan.specs.Readable.{slotsWrongIn, Readable}
 -- An answer that refuses.
 abbrev refuses : PlanRead → Bool
 refuses (PlanRead.Good h) = false
-refuses PlanRead.WrongSize = true
-refuses PlanRead.WrongSum = true
-refuses PlanRead.WrongLayout = true
-refuses PlanRead.WrongSlots = true
+refuses (PlanRead.Refused why) = true
 
 -- A plan whose header was answered passed every test.
 pub read-facts : (bytes : List ℕ) (h : Header) → readingAnswer bytes ≡ PlanRead.Good h → Readable bytes h
 unfolding slotsWrongIn
 read-facts bytes h good =
-    ⊎-elim (λ a. other PlanRead.WrongSize refl (answer-13 bytes a))
+    ⊎-elim (λ a. other (PlanRead.Refused Refusal.WrongSize) refl (answer-13 bytes a))
     (λ a.
-    ⊎-elim (λ b. other PlanRead.WrongSum refl (answer-14 bytes a b))
+    ⊎-elim (λ b. other (PlanRead.Refused Refusal.WrongSum) refl (answer-14 bytes a b))
     (λ b.
     let k = headerOf (wordsOf bytes) in
-    ⊎-elim (λ c. other PlanRead.WrongLayout refl (answer-15 bytes k refl a b c))
+    ⊎-elim (λ c. other (PlanRead.Refused Refusal.WrongLayout) refl (answer-15 bytes k refl a b c))
     (λ c.
-    ⊎-elim (λ d. other PlanRead.WrongSlots refl (answer-16 bytes k refl a b c d)) (λ d. found a b c d) (bool-cases (slotsWrongIn bytes k)))
+    ⊎-elim (λ d. other (PlanRead.Refused Refusal.WrongSlots) refl (answer-16 bytes k refl a b c d)) (λ d. found a b c d) (bool-cases (slotsWrongIn bytes k)))
     (bool-cases (layoutWrong (length bytes) k)))
     (bool-cases (sumWrong (wordsOf bytes))))
     (bool-cases (sizeWrong bytes))

@@ -5,7 +5,8 @@ use mathlib.Core.Bool.{Bool, true, false, cond}
 use mathlib.Core.List.{List}
 use native.Mathlib.Omega.{arith}
 use Rattle.meaning.specs.declared.Header.{Header}
-use Rattle.meaning.specs.Answers.{planRead, refusal}
+use Rattle.meaning.specs.Answers.{planRead, refusal, refusalNumber}
+use Rattle.meaning.specs.declared.Refusal.{Refusal}
 use Rattle.meaning.specs.declared.PlanRead.{PlanRead}
 use Rattle.meaning.specs.Plan.{wordsOf, headerOf, sizeWrong, sumWrong, readingAnswer}
 use Rattle.plan.specs.FirstRefusal.{readingOf, readingNumber, layoutOff, slotsOff}
@@ -53,12 +54,12 @@ only-0 false false false false e = (refl, refl, refl, refl)
 -- The answer of reading, by its four tests in their order.
 abbrev readingBy : Bool → Bool → Bool → Bool → Header → PlanRead
 readingBy a b c d h =
-    cond a PlanRead.WrongSize (cond b PlanRead.WrongSum (cond c PlanRead.WrongLayout (cond d PlanRead.WrongSlots (PlanRead.Good h))))
+    cond a (PlanRead.Refused Refusal.WrongSize) (cond b (PlanRead.Refused Refusal.WrongSum) (cond c (PlanRead.Refused Refusal.WrongLayout) (cond d (PlanRead.Refused Refusal.WrongSlots) (PlanRead.Good h))))
 
 -- The number of an answer of reading is that of the first test that refuses.
 read-number :
     (a b c d : Bool) (h : Header) → planRead (readingBy a b c d h) .number ≡ readingOf a b c d
-unfolding planRead refusal
+unfolding planRead refusal refusalNumber
 read-number true b c d h = refl
 read-number false true c d h = refl
 read-number false false true d h = refl

@@ -8,6 +8,7 @@ use super::words::sum_of_bytes;
 use super::words::word;
 use meaning::Header;
 use meaning::PlanRead;
+use meaning::Refusal;
 use meaning::Table;
 
 // "plan under 40 bytes, above 65,536, not a multiple of 4, or word 0 differs from its size".
@@ -114,19 +115,19 @@ pub fn read(plan: &[u8]) -> PlanRead
     ensures { λ r. ⌜ r ≡ readingAnswer (now (plan .entry)) ⌝ }
 {
     if size_wrong(plan) {
-        return PlanRead::WrongSize;
+        return PlanRead::Refused(Refusal::WrongSize);
     }
     if sum_of_bytes(plan) != 0 {
-        return PlanRead::WrongSum;
+        return PlanRead::Refused(Refusal::WrongSum);
     }
     let h = header(plan);
     if layout_wrong(plan.len(), h) {
-        return PlanRead::WrongLayout;
+        return PlanRead::Refused(Refusal::WrongLayout);
     }
     let arrivals = h.arrivals;
     let start = arrivals.start;
     if slots_wrong(&plan[start..]) {
-        return PlanRead::WrongSlots;
+        return PlanRead::Refused(Refusal::WrongSlots);
     }
     PlanRead::Good(h)
 }

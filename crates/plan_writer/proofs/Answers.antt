@@ -7,6 +7,7 @@ use native.Mathlib.Omega.{arith}
 use lib.ListN.{length, drop}
 use lib.Dec.{ltb}
 use borrow.Author.Tests.{lt-ltb, le-ltb}
+use Rattle.meaning.specs.declared.Refusal.{Refusal}
 use Rattle.meaning.specs.declared.PlanWritten.{PlanWritten}
 use Rattle.meaning.specs.Plan.{Lent, writingAnswer, slotsWrong, lentPlan, lentWrong, sizeOf, planBytes}
 use Rattle.plan_writer.specs.Bytes.{pasted}
@@ -16,21 +17,21 @@ use Rattle.plan_writer.specs.Written.{bytesBy, bytesAfter}
 -- The four answers of writing and the buffer after each, from the tests that lead to it.
 module _ (l : Lent) (buf : List ℕ) where
   -- Lent tables that are wrong are answered first, and the buffer stays as it is.
-  pub answer-15 : lentWrong l ≡ true → (PlanWritten.WrongLayout ≡ writingAnswer l (length buf)) × (buf ≡ bytesAfter l buf)
+  pub answer-15 : lentWrong l ≡ true → ((PlanWritten.Refused Refusal.WrongLayout) ≡ writingAnswer l (length buf)) × (buf ≡ bytesAfter l buf)
   unfolding writingAnswer bytesAfter bytesBy
   answer-15 a = (rw a, rw a)
 
   module _ (a : lentWrong l ≡ false) where
     -- Where the tables are right, slots that are wrong are answered next, and the buffer stays as it is.
     pub answer-16 :
-        slotsWrong (lentPlan l .arrivals) ≡ true → (PlanWritten.WrongSlots ≡ writingAnswer l (length buf)) × (buf ≡ bytesAfter l buf)
+        slotsWrong (lentPlan l .arrivals) ≡ true → ((PlanWritten.Refused Refusal.WrongSlots) ≡ writingAnswer l (length buf)) × (buf ≡ bytesAfter l buf)
     unfolding writingAnswer bytesAfter bytesBy
     answer-16 b = (rw (a, b), rw (a, b))
 
     module _ (b : slotsWrong (lentPlan l .arrivals) ≡ false) where
       -- Where the slots are right too, a buffer that is too short is answered last, and stays as it is.
       pub answer-17 :
-          length buf < sizeOf (lentPlan l) → (PlanWritten.TooShort ≡ writingAnswer l (length buf)) × (buf ≡ bytesAfter l buf)
+          length buf < sizeOf (lentPlan l) → ((PlanWritten.Refused Refusal.TooShort) ≡ writingAnswer l (length buf)) × (buf ≡ bytesAfter l buf)
       unfolding writingAnswer bytesAfter bytesBy
       answer-17 c = let t = lt-ltb _ _ c in (rw (a, b, t), rw (a, b, t))
 

@@ -11,6 +11,7 @@ use lib.ListN.{length, getD, take, drop}
 use lib.Seq.{take-at}
 use Rattle.laws.specs.Tests.{bool-cases}
 use Rattle.meaning.specs.declared.Header.{Header}
+use Rattle.meaning.specs.declared.Refusal.{Refusal}
 use Rattle.meaning.specs.declared.PlanWritten.{PlanWritten}
 use Rattle.meaning.specs.declared.PlanRead.{PlanRead}
 use Rattle.meaning.specs.Plan.{Plan, Lent, lentPlan, lentWrong, wordsOf, headerOf, contentsOf, table, factorAt, connectionAt, arrivalAt}
@@ -37,16 +38,14 @@ both-fit (a ∷ l) m p q (suc i) = both-fit l m (λ j. p (suc j)) q i
 -- An answer that refuses.
 abbrev refuses : PlanWritten → Bool
 refuses (PlanWritten.Written n) = false
-refuses PlanWritten.WrongLayout = true
-refuses PlanWritten.WrongSlots = true
-refuses PlanWritten.TooShort = true
+refuses (PlanWritten.Refused why) = true
 
 -- Lent tables whose size was answered are right, and there was room for them.
 pub write-facts : (l : Lent) (buf : List ℕ) (size : ℕ) → writingAnswer l (length buf) ≡ PlanWritten.Written size → Taken l (length buf) size
 write-facts l buf size done =
-    ⊎-elim (λ a. other PlanWritten.WrongLayout refl (answer-15 l buf a .0))
+    ⊎-elim (λ a. other (PlanWritten.Refused Refusal.WrongLayout) refl (answer-15 l buf a .0))
     (λ a.
-    ⊎-elim (λ b. other PlanWritten.WrongSlots refl (answer-16 l buf a b .0)) (λ b. room a b (decLe (sizeOf (lentPlan l)) (length buf)))
+    ⊎-elim (λ b. other (PlanWritten.Refused Refusal.WrongSlots) refl (answer-16 l buf a b .0)) (λ b. room a b (decLe (sizeOf (lentPlan l)) (length buf)))
     (bool-cases (slotsWrong (lentPlan l .arrivals))))
     (bool-cases (lentWrong l))
   where
@@ -55,7 +54,7 @@ write-facts l buf size done =
 
     room :
         lentWrong l ≡ false → slotsWrong (lentPlan l .arrivals) ≡ false → Dec (sizeOf (lentPlan l) ≤ length buf) → Taken l (length buf) size
-    room a b (no h) = other PlanWritten.TooShort refl (answer-17 l buf a b (omega arith) .0)
+    room a b (no h) = other (PlanWritten.Refused Refusal.TooShort) refl (answer-17 l buf a b (omega arith) .0)
     room a b (yes h) =
         let same : PlanWritten.Written (sizeOf (lentPlan l)) ≡ PlanWritten.Written size =
         answer-0 l buf a b (sizeOf (lentPlan l)) _ refl h refl .0 ∙ done in

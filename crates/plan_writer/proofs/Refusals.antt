@@ -4,19 +4,20 @@ use mathlib.Core.Path.{_≡_, refl, sym, _∙_}
 use mathlib.Core.Bool.{Bool, true, false, cond}
 use native.Mathlib.Omega.{arith}
 use lib.Dec.{ltb}
-use Rattle.meaning.specs.Answers.{planWritten, refusal}
+use Rattle.meaning.specs.Answers.{planWritten, refusal, refusalNumber}
+use Rattle.meaning.specs.declared.Refusal.{Refusal}
 use Rattle.meaning.specs.declared.PlanWritten.{PlanWritten}
 use Rattle.meaning.specs.Plan.{Lent, lentPlan, lentWrong, sizeOf, slotsWrong, writingAnswer}
 use Rattle.plan_writer.specs.FirstRefusal.{writingOf, writingNumber}
 
 -- The answer of writing, by its three tests in their order.
 abbrev writingBy : Bool → Bool → Bool → ℕ → PlanWritten
-writingBy a b c n = cond a PlanWritten.WrongLayout (cond b PlanWritten.WrongSlots (cond c PlanWritten.TooShort (PlanWritten.Written n)))
+writingBy a b c n = cond a (PlanWritten.Refused Refusal.WrongLayout) (cond b (PlanWritten.Refused Refusal.WrongSlots) (cond c (PlanWritten.Refused Refusal.TooShort) (PlanWritten.Written n)))
 
 -- The number of an answer of writing is that of the first test that refuses.
 written-number :
     (a b c : Bool) (n : ℕ) → planWritten (writingBy a b c n) .number ≡ writingOf a b c
-unfolding planWritten refusal
+unfolding planWritten refusal refusalNumber
 written-number true b c n = refl
 written-number false true c n = refl
 written-number false false true n = refl

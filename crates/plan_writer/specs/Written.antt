@@ -52,9 +52,7 @@ arrivalsOfWords ws = table arrivalAt 3 ws 0 (length ws / 3)
 -- The buffer after an answer: the bytes of the plan and then what stood behind them, or all as it was.
 unfoldable pub bytesBy : PlanWritten → Lent → List ℕ → List ℕ
 bytesBy (PlanWritten.Written size) l buf = planBytes (lentPlan l) ++ drop size buf
-bytesBy PlanWritten.WrongLayout l buf = buf
-bytesBy PlanWritten.WrongSlots l buf = buf
-bytesBy PlanWritten.TooShort l buf = buf
+bytesBy (PlanWritten.Refused why) l buf = buf
 
 -- The buffer after writing.
 unfoldable pub bytesAfter : Lent → List ℕ → List ℕ

@@ -8,6 +8,7 @@ ghost use Rattle.plan_writer.specs.Bytes.{pasted};
 use super::words::add_words;
 use super::words::put_words;
 use meaning::PlanWritten;
+use meaning::Refusal;
 use plan::reading::counts_allowed;
 
 // Counts that are too large, or tables that are not whole entries.
@@ -101,14 +102,14 @@ pub fn write(
         (now (buf .entry)) ⌝ }
 {
     if lent_wrong(factors.len(), connections.len(), arrivals.len()) {
-        return PlanWritten::WrongLayout;
+        return PlanWritten::Refused(Refusal::WrongLayout);
     }
     if slots_wrong(arrivals) {
-        return PlanWritten::WrongSlots;
+        return PlanWritten::Refused(Refusal::WrongSlots);
     }
     let size = 40 + 4 * factors.len() + 4 * connections.len() + 4 * arrivals.len();
     if buf.len() < size {
-        return PlanWritten::TooShort;
+        return PlanWritten::Refused(Refusal::TooShort);
     }
     put_plan(interval, cycle, factors, connections, arrivals, buf);
     PlanWritten::Written(size)

@@ -6,6 +6,7 @@ use mathlib.Core.List.{List}
 use lib.ListN.{length}
 use lib.Dec.{ltb}
 use borrow.Author.Tests.{ltb-false}
+use Rattle.meaning.specs.declared.Refusal.{Refusal}
 use Rattle.meaning.specs.declared.Opened.{Opened}
 use Rattle.meaning.specs.Numbers.{Settings, settingsAllowed}
 use Rattle.meaning.specs.Calls.{newBox, openingAnswer}
@@ -19,8 +20,7 @@ use Rattle.words.proofs.Counts.{sound-put, sound-contents-put}
 -- The answer is 0.
 abbrev isDone : Opened → Bool
 isDone Opened.Done = true
-isDone Opened.OffRange = false
-isDone Opened.TooShort = false
+isDone (Opened.Refused why) = false
 
 -- An opening that is answered 0 had settings that are allowed and words enough.
 done-says : (set : Settings) (size lent : ℕ) → openingAnswer size lent set ≡ Opened.Done
@@ -28,7 +28,7 @@ done-says : (set : Settings) (size lent : ℕ) → openingAnswer size lent set �
 unfolding openingAnswer
 done-says set size lent = go (settingsAllowed set) (ltb lent size)
   where
-    go : (a b : Bool) → cond (not a) Opened.OffRange (cond b Opened.TooShort Opened.Done) ≡ Opened.Done → (a ≡ true) × (b ≡ false)
+    go : (a b : Bool) → cond (not a) (Opened.Refused Refusal.SettingsOffRange) (cond b (Opened.Refused Refusal.TooShort) Opened.Done) ≡ Opened.Done → (a ≡ true) × (b ≡ false)
     go true false e = (refl, refl)
     go true true e = absurd (true≢false (sym (ap isDone e)))
     go false b e = absurd (true≢false (sym (ap isDone e)))

@@ -24,8 +24,7 @@ factorsPut fs ws = take factorsAt ws ++ fs ++ drop (factorsAt + length fs) ws
 -- The words after an opening: those of a new box, or as they were where it is refused.
 unfoldable pub afterOpening : Settings → List ℕ → Opened → List ℕ
 afterOpening opening ws Opened.Done = put (newBox opening) ws
-afterOpening opening ws Opened.OffRange = ws
-afterOpening opening ws Opened.TooShort = ws
+afterOpening opening ws (Opened.Refused why) = ws
 
 -- The answer of an opening, and the words after it.
 unfoldable pub opened : Settings → List ℕ → Opened × List ℕ

@@ -1,6 +1,7 @@
 // Opening a box in lent words.
 use crate::settings::settings_allowed;
 use meaning::Opened;
+use meaning::Refusal;
 use words::places::BOX_WORDS;
 use words::places::CLASSES_AT;
 use words::places::CYCLE_AT;
@@ -42,10 +43,10 @@ pub fn open(ws: &mut [u32], d: u32, m: u32, factors: &[u32]) -> Opened
     ensures { λ r. ⌜ OpenPromise (now (ws .entry)) d m (now (factors .entry)) r (now (ws .exit)) ⌝ }
 {
     if !settings_allowed(d, m, factors) {
-        return Opened::OffRange;
+        return Opened::Refused(Refusal::SettingsOffRange);
     }
     if ws.len() < BOX_WORDS {
-        return Opened::TooShort;
+        return Opened::Refused(Refusal::TooShort);
     }
     clear(ws, PACKETS_AT);
     ws[INTERVAL_AT] = d;

@@ -20,7 +20,7 @@ use Rattle.plan.specs.Entries.{length-table, getD-table}
 use Rattle.lines.specs.Put.{Room, Put}
 use Rattle.multiplexer.specs.Promised.{Leaves}
 use Rattle.whole_run.specs.Parts.{connectionsIn, admissionsOf, Admits}
-use Rattle.whole_run.proofs.Reached.{Reached, reached-start, reached-as, reached-next, reached-on, reached-end, text-cons, text-none}
+use Rattle.lines.proofs.Reached.{Reached, reached-start, reached-as, reached-next, reached-on, reached-end, text-cons, text-none}
 
 -- The admissions from place i on, counted from 0.
 abbrev restAdmitted : List ℕ → ℕ → Box → AfterAdmissions

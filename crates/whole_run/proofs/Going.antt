@@ -14,10 +14,10 @@ use Rattle.meaning.specs.Step.{moved}
 use Rattle.meaning.specs.declared.Arrival.{Arrival}
 use Rattle.meaning.specs.Run.{Line, endLine, stopLine, numberOf, offerAll, departures, finished}
 use Rattle.meaning.specs.Lines.{lineText, textOf}
-use Rattle.meaning.proofs.SlotsEnough.{potential}
+use Rattle.meaning.specs.Rest.{potential, dueNow, restOf, afterAnswer}
 use Rattle.meaning.proofs.OfferLines.{offer-counter}
 use Rattle.meaning.proofs.StepLines.{moved-counter}
-use Rattle.meaning.proofs.RestOfRun.{restOf, rest-ended, rest-goes-on, slot-falls, afterAnswer}
+use Rattle.meaning.proofs.RestOfRun.{rest-ended, rest-goes-on, slot-falls}
 use Rattle.words.specs.Contents.{contents}
 use Rattle.words.specs.Sound.{soundWords}
 use Rattle.plan.specs.Parts.{arrivalsIn, leading}
@@ -26,7 +26,7 @@ use Rattle.multiplexer.proofs.Sounds.{counter-most}
 use Rattle.lines.specs.Put.{Room, Put}
 use Rattle.whole_run.specs.declared.slots.Slot.{Slot}
 use Rattle.whole_run.specs.Parts.{RunsSlot, PassesIdle, Walked, arrivalsPlaced, offersNow, answerNow, linesOfSlot, restOfRun}
-use Rattle.whole_run.proofs.Reached.{Reached, reached-start, reached-as, reached-room, reached-next, reached-on, reached-last, text-one, text-append}
+use Rattle.lines.proofs.Reached.{Reached, reached-start, reached-as, reached-room, reached-next, reached-on, reached-last, text-one, text-append}
 use Rattle.whole_run.proofs.Stepping.{after-stop, after-on, after-moved, departed-most}
 
 -- Offers do not move the counter.
@@ -139,7 +139,7 @@ module _ {numbers bytes : List ℕ} {box : Box} {ws before out : List ℕ} {star
         counts : contents after .counter ≡ suc (now .counter)
         counts =
             ap (λ (b : Box). b .counter) moves ∙ moved-counter (offersNow numbers bytes now .box) ∙
-            ap suc (offers-counter numbers (Rattle.meaning.proofs.RestOfRun.dueNow l now) now)
+            ap suc (offers-counter numbers (dueNow l now) now)
 
         pub departed-fits : departed + r .departed ≤ 4000000001
         departed-fits =

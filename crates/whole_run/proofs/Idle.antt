@@ -16,8 +16,8 @@ use Rattle.meaning.specs.Step.{stepAnswer, moved}
 use Rattle.meaning.specs.declared.Arrival.{Arrival}
 use Rattle.meaning.specs.Plan.{wordsOf, arrivalAt, neverFallingFrom, lastArrivalSlot}
 use Rattle.meaning.specs.Run.{offerAll, departures, finished}
-use Rattle.meaning.proofs.SlotsEnough.{potential}
-use Rattle.meaning.proofs.RestOfRun.{restOf, dueNow, afterAnswer, rest-goes-on, slot-falls}
+use Rattle.meaning.specs.Rest.{potential, dueNow, restOf, afterAnswer}
+use Rattle.meaning.proofs.RestOfRun.{rest-goes-on, slot-falls}
 use Rattle.words.specs.Contents.{contents}
 use Rattle.words.specs.Sound.{soundWords}
 use Rattle.words.specs.Changes.{Become}

@@ -1,4 +1,3 @@
-pub mod Reached
 pub mod Lookups
 pub mod Admitting
 pub mod Offering

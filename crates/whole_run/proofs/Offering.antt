@@ -23,7 +23,7 @@ use Rattle.plan.specs.StretchPlaces.{length-arrivalsIn}
 use Rattle.lines.specs.Put.{Room, Put}
 use Rattle.multiplexer.specs.Promised.{Leaves}
 use Rattle.whole_run.specs.Parts.{offersOf, Offers}
-use Rattle.whole_run.proofs.Reached.{Reached, reached-start, reached-as, reached-next, reached-on, reached-end, text-cons, text-none}
+use Rattle.lines.proofs.Reached.{Reached, reached-start, reached-as, reached-next, reached-on, reached-end, text-cons, text-none}
 
 -- The offers from the i-th arrival on, counted from 0.
 abbrev restOffered : List ℕ → List ℕ → ℕ → ℕ → Box → AfterOffers

@@ -12,7 +12,7 @@ use Rattle.meaning.specs.Step.{stepAnswer, afterStep}
 use Rattle.meaning.specs.Plan.{arrivalsOf}
 use Rattle.meaning.specs.Run.{AfterOffers, offerAll, departures}
 use Rattle.meaning.specs.Lines.{textOf}
-use Rattle.meaning.proofs.RestOfRun.{dueNow}
+use Rattle.meaning.specs.Rest.{dueNow}
 use Rattle.words.specs.Contents.{contents}
 use Rattle.plan.specs.Parts.{arrivalsIn, leading, stretchOf}
 use Rattle.plan.specs.StretchPlaces.{leading-within, length-arrivalsIn, stretch-within}
@@ -21,7 +21,7 @@ use Rattle.lines.specs.Put.{Room, Put}
 use Rattle.lines.proofs.Puts.{then, room-after, room-first}
 use Rattle.multiplexer.specs.Promised.{Leaves}
 use Rattle.whole_run.specs.Parts.{Offers, RunsSlot, Sorted, Walked, arrivalsPlaced, offersOf, offersNow, answerNow, linesOfSlot}
-use Rattle.whole_run.proofs.Reached.{text-append}
+use Rattle.lines.proofs.Reached.{text-append}
 use Rattle.whole_run.proofs.Due.{placed-due}
 use Rattle.whole_run.proofs.Stepping.{departed-same}
 

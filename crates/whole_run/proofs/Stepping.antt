@@ -13,9 +13,10 @@ use Rattle.meaning.specs.Step.{moved, afterStep}
 use Rattle.meaning.specs.declared.Arrival.{Arrival}
 use Rattle.meaning.specs.Run.{departLine, stopLine, placeOf, departures}
 use Rattle.meaning.specs.Lines.{lineText, textOf}
-use Rattle.meaning.proofs.RestOfRun.{restOf, afterAnswer}
+use Rattle.meaning.specs.Rest.{restOf, afterAnswer}
+use Rattle.meaning.proofs.Readings.{refusal-range}
 use Rattle.lines.specs.Put.{Put}
-use Rattle.whole_run.proofs.Reached.{put-none, text-one, text-none}
+use Rattle.lines.proofs.Reached.{put-none, text-one, text-none}
 
 -- The line of a departure.
 pub departed-line : (numbers : List ℕ) (answer : Stepped) (serial connection arrival departure place : ℕ) → answer ≡ Stepped.Departed serial connection arrival departure
@@ -35,18 +36,14 @@ unfolding departures
 departed-same numbers Stepped.Idle = refl
 departed-same numbers (Stepped.Sending serial left) = refl
 departed-same numbers (Stepped.Departed serial connection arrival departure) = refl
-departed-same numbers Stepped.NotSound = refl
-departed-same numbers Stepped.CounterEnded = refl
-departed-same numbers Stepped.TurnBlocked = refl
+departed-same numbers (Stepped.Refused why) = refl
 
 pub departed-most : (numbers : List ℕ) (answer : Stepped) → length (departures numbers answer) ≤ 1
 unfolding departures
 departed-most numbers Stepped.Idle = omega arith
 departed-most numbers (Stepped.Sending serial left) = omega arith
 departed-most numbers (Stepped.Departed serial connection arrival departure) = omega arith
-departed-most numbers Stepped.NotSound = omega arith
-departed-most numbers Stepped.CounterEnded = omega arith
-departed-most numbers Stepped.TurnBlocked = omega arith
+departed-most numbers (Stepped.Refused why) = omega arith
 
 module _ (l : List (Placed Arrival)) (numbers : List ℕ) (box : Box) (departed : ℕ) where
   same-departed : restOf l numbers (moved box) departed ≡ restOf l numbers (moved box) (departed + 0)
@@ -58,9 +55,7 @@ module _ (l : List (Placed Arrival)) (numbers : List ℕ) (box : Box) (departed 
   after-stop Stepped.Idle h = absurd (h refl)
   after-stop (Stepped.Sending serial left) h = absurd (h refl)
   after-stop (Stepped.Departed serial connection arrival departure) h = absurd (h refl)
-  after-stop Stepped.NotSound h = refl
-  after-stop Stepped.CounterEnded h = refl
-  after-stop Stepped.TurnBlocked h = refl
+  after-stop (Stepped.Refused why) h = refl
 
   -- after any other step the run goes on from the box after it
   pub after-on : (answer : Stepped) → stepped answer .number ≡ 0
@@ -69,9 +64,7 @@ module _ (l : List (Placed Arrival)) (numbers : List ℕ) (box : Box) (departed 
   after-on Stepped.Idle h = same-departed
   after-on (Stepped.Sending serial left) h = same-departed
   after-on (Stepped.Departed serial connection arrival departure) h = refl
-  after-on Stepped.NotSound h = absurd (let z = h in omega arith)
-  after-on Stepped.CounterEnded h = absurd (let z = h in omega arith)
-  after-on Stepped.TurnBlocked h = absurd (let z = h in omega arith)
+  after-on (Stepped.Refused why) h = absurd (let r = refusal-range why .0 in omega (arith, h, r))
 
 -- and that box has moved.
 pub after-moved : (box : Box) (answer : Stepped) → stepped answer .number ≡ 0 → afterStep box answer ≡ moved box
@@ -79,6 +72,4 @@ unfolding stepped refusal afterStep
 after-moved box Stepped.Idle h = refl
 after-moved box (Stepped.Sending serial left) h = refl
 after-moved box (Stepped.Departed serial connection arrival departure) h = refl
-after-moved box Stepped.NotSound h = absurd (let z = h in omega arith)
-after-moved box Stepped.CounterEnded h = absurd (let z = h in omega arith)
-after-moved box Stepped.TurnBlocked h = absurd (let z = h in omega arith)
+after-moved box (Stepped.Refused why) h = absurd (let r = refusal-range why .0 in omega (arith, h, r))

@@ -7,10 +7,11 @@ use native.Mathlib.Omega.{arith}
 use lib.ListN.{length, take}
 use borrow.Author.Tests.{lt-ltb, le-ltb}
 use Rattle.meaning.specs.declared.Header.{Header}
+use Rattle.meaning.specs.declared.Refusal.{Refusal}
 use Rattle.meaning.specs.declared.Opened.{Opened}
 use Rattle.meaning.specs.declared.PlanRead.{PlanRead}
 use Rattle.meaning.specs.Numbers.{Settings}
-use Rattle.meaning.specs.Answers.{refusal, opened, planRead}
+use Rattle.meaning.specs.Answers.{refusalNumber}
 use Rattle.meaning.specs.Calls.{newBox, openingAnswer}
 use Rattle.meaning.specs.Plan.{wordsOf, contentsOf, readingAnswer, table, factorAt}
 use Rattle.meaning.specs.Run.{Line, refusedLine, openRun, planRun, readRun, run}
@@ -25,9 +26,9 @@ use Rattle.plan.specs.Parts.{partOf}
 use Rattle.plan.specs.Readable.{Readable}
 use Rattle.plan.proofs.Good.{read-back}
 use Rattle.lines.specs.Put.{Room, Put}
-use Rattle.whole_run.specs.declared.running.Printed.{Printed}
+use Rattle.meaning.specs.declared.Printed.{Printed}
 use Rattle.whole_run.specs.Printing.{printingAnswer, textAfter}
-use Rattle.whole_run.proofs.Reached.{text-one}
+use Rattle.lines.proofs.Reached.{text-one}
 use Rattle.whole_run.proofs.Whole.{factors-are}
 
 run-text : (bytes : List ℕ) → runText bytes ≡ textOf (run bytes)
@@ -44,21 +45,9 @@ module _ (bytes : List ℕ) (answer : PlanRead) (is : answer ≡ readingAnswer b
   unfolding run
   reads = ap (readRun bytes) (sym is)
 
-  pub refused-13 : answer ≡ PlanRead.WrongSize → runText bytes ≡ lineText (refusedLine 13)
-  unfolding readRun planRead refusal
-  refused-13 e = run-text bytes ∙ ap textOf (reads ∙ ap (readRun bytes) e) ∙ text-one (refusedLine 13)
-
-  pub refused-14 : answer ≡ PlanRead.WrongSum → runText bytes ≡ lineText (refusedLine 14)
-  unfolding readRun planRead refusal
-  refused-14 e = run-text bytes ∙ ap textOf (reads ∙ ap (readRun bytes) e) ∙ text-one (refusedLine 14)
-
-  pub refused-15 : answer ≡ PlanRead.WrongLayout → runText bytes ≡ lineText (refusedLine 15)
-  unfolding readRun planRead refusal
-  refused-15 e = run-text bytes ∙ ap textOf (reads ∙ ap (readRun bytes) e) ∙ text-one (refusedLine 15)
-
-  pub refused-16 : answer ≡ PlanRead.WrongSlots → runText bytes ≡ lineText (refusedLine 16)
-  unfolding readRun planRead refusal
-  refused-16 e = run-text bytes ∙ ap textOf (reads ∙ ap (readRun bytes) e) ∙ text-one (refusedLine 16)
+  pub refused-by-reading : (why : Refusal) → answer ≡ PlanRead.Refused why → runText bytes ≡ lineText (refusedLine (refusalNumber why))
+  unfolding readRun
+  refused-by-reading why e = run-text bytes ∙ ap textOf (reads ∙ ap (readRun bytes) e) ∙ text-one (refusedLine (refusalNumber why))
 
 -- Words enough are lent, so only the settings decide.
 opening-same : (settings : Settings) (ws : List ℕ) → length ws ≡ boxWords → openings.opened settings ws .0 ≡ openingAnswer 0 0 settings
@@ -82,7 +71,7 @@ module _ (bytes : List ℕ) (h : Header) (r : Readable bytes h) (classes factors
 
   -- the run is what this answer makes of it
   abbrev runAs : Opened → List Line
-  runAs a = planRun (contentsOf (wordsOf bytes) h) (opened a .number)
+  runAs a = planRun (contentsOf (wordsOf bytes) h) a
 
   opens : run bytes ≡ runAs answer
   unfolding run readRun
@@ -92,7 +81,7 @@ module _ (bytes : List ℕ) (h : Header) (r : Readable bytes h) (classes factors
   -- a box is open
   module _ (done : answer ≡ Opened.Done) where
     pub run-opened : runText bytes ≡ textOf (openRun (contentsOf (wordsOf bytes) h))
-    unfolding opened planRun
+    unfolding planRun
     run-opened = run-text bytes ∙ ap textOf (opens ∙ ap runAs done)
 
     pub opens-sound : soundWords exit ≡ true
@@ -102,16 +91,13 @@ module _ (bytes : List ℕ) (h : Header) (r : Readable bytes h) (classes factors
     opens-new = ap contents exit-is ∙ opened-new settings ws (sym answer-is ∙ done) ∙ ap newBox same
 
   -- opening refuses: one line
-  pub refused-2 : answer ≡ Opened.OffRange → runText bytes ≡ lineText (refusedLine 2)
-  unfolding opened planRun refusal
-  refused-2 e = run-text bytes ∙ ap textOf (opens ∙ ap runAs e) ∙ text-one (refusedLine 2)
-
-  pub refused-17 : answer ≡ Opened.TooShort → runText bytes ≡ lineText (refusedLine 17)
-  unfolding opened planRun refusal
-  refused-17 e = run-text bytes ∙ ap textOf (opens ∙ ap runAs e) ∙ text-one (refusedLine 17)
+  pub refused-by-opening : (why : Refusal) → answer ≡ Opened.Refused why → runText bytes ≡ lineText (refusedLine (refusalNumber why))
+  unfolding planRun
+  refused-by-opening why e = run-text bytes ∙ ap textOf (opens ∙ ap runAs e) ∙ text-one (refusedLine (refusalNumber why))
 
 -- What is promised of a buffer that is too short, and of one that is long enough.
-pub too-short : (bytes out : List ℕ) → length out ≤ 419999 → (Printed.TooShort ≡ printingAnswer bytes (length out)) × (out ≡ textAfter bytes out)
+pub too-short : (bytes out : List ℕ) → length out ≤ 419999
+    → (Printed.Refused Refusal.TooShort ≡ printingAnswer bytes (length out)) × (out ≡ textAfter bytes out)
 unfolding printingAnswer textAfter
 too-short bytes out h = let e = lt-ltb (length out) textMost (omega (arith, h)) in (rw e refl, rw e refl)
 

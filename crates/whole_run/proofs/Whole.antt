@@ -17,8 +17,9 @@ use Rattle.meaning.specs.declared.Arrival.{Arrival}
 use Rattle.meaning.specs.Plan.{Plan, wordsOf, contentsOf, table, factorAt, connectionAt, neverFallingFrom, lastArrivalSlot, slotsWrong}
 use Rattle.meaning.specs.Run.{AfterAdmissions, admitAll, openRun}
 use Rattle.meaning.specs.Lines.{textOf}
+use Rattle.meaning.specs.Rest.{restOf}
 use Rattle.meaning.proofs.SlotsEnough.{admissions-weight}
-use Rattle.meaning.proofs.RestOfRun.{restOf, open-run}
+use Rattle.meaning.proofs.RestOfRun.{open-run}
 use Rattle.words.specs.Contents.{contents}
 use Rattle.tables.specs.Opening.{asked}
 use Rattle.plan.specs.Entries.{take-table}
@@ -27,7 +28,7 @@ use Rattle.plan.specs.Readable.{Readable}
 use Rattle.plan.proofs.Good.{classes-hold, connections-hold, arrivals-hold, never-falling}
 use Rattle.lines.specs.Put.{Room, Put}
 use Rattle.whole_run.specs.Parts.{Admits, Sorted, admissionsOf, connectionsIn, restOfRun}
-use Rattle.whole_run.proofs.Reached.{Reached, reached-start, reached-as, reached-room, reached-next, reached-on, reached-last, text-append}
+use Rattle.lines.proofs.Reached.{Reached, reached-start, reached-as, reached-room, reached-next, reached-on, reached-last, text-append}
 
 -- How long the part of a table is.
 part-length : (bytes : List ℕ) (t : Table) (width : ℕ) → t .start + width * t .count ≤ length bytes → length (partOf bytes t width) ≡ width * t .count

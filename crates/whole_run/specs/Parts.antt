@@ -16,8 +16,7 @@ use Rattle.meaning.specs.declared.Arrival.{Arrival}
 use Rattle.meaning.specs.Plan.{wordsOf, table, connectionAt, neverFallingFrom, lastArrivalSlot}
 use Rattle.meaning.specs.Run.{Line, AfterAdmissions, AfterOffers, admitAll, offerAll, departures}
 use Rattle.meaning.specs.Lines.{textOf}
-use Rattle.meaning.proofs.SlotsEnough.{potential}
-use Rattle.meaning.proofs.RestOfRun.{restOf, dueNow}
+use Rattle.meaning.specs.Rest.{potential, dueNow, restOf}
 use Rattle.words.specs.Contents.{contents}
 use Rattle.words.specs.Sound.{soundWords}
 use Rattle.plan.specs.Parts.{arrivalsIn, leading}

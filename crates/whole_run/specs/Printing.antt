@@ -3,22 +3,17 @@
 use Prim.Native.Nat.{ℕ}
 use mathlib.Core.Path.{_≡_}
 use mathlib.Core.Bool.{cond}
-use mathlib.Core.List.{List, [], _∷_}
+use mathlib.Core.List.{List}
 use lib.ListN.{length}
 use lib.Dec.{ltb}
-use Rattle.meaning.specs.Answers.{Answer, refusal}
+use Rattle.meaning.specs.declared.Refusal.{Refusal}
+use Rattle.meaning.specs.declared.Printed.{Printed}
 use Rattle.meaning.specs.Lines.{runText, textMost}
 use Rattle.lines.specs.Put.{putAt}
-use Rattle.whole_run.specs.declared.running.Printed.{Printed}
-
--- The number of each answer, and its other result field: the bytes written.
-unfoldable pub printed : Printed → Answer
-printed (Printed.Written n) = record { number = 0; fields = n ∷ [] }
-printed Printed.TooShort = refusal 17 1
 
 -- The answer for these bytes and a buffer of so many bytes.
 unfoldable pub printingAnswer : List ℕ → ℕ → Printed
-printingAnswer bytes room = cond (ltb room textMost) Printed.TooShort (Printed.Written (length (runText bytes)))
+printingAnswer bytes room = cond (ltb room textMost) (Printed.Refused Refusal.TooShort) (Printed.Written (length (runText bytes)))
 
 -- The buffer afterwards: the text of the run at its start, and no other byte changed; a buffer that is refused is as it was.
 unfoldable pub textAfter : List ℕ → List ℕ → List ℕ

@@ -1,7 +1,5 @@
 // "admits in file order".
-use super::answers::admission_number;
-use super::answers::failing_t;
-use super::answers::number_given;
+use answers::tell_admitted;
 use lines::put_admit;
 use multiplexer::admitting::admit_sound;
 use plan::tables::connection;
@@ -26,15 +24,9 @@ pub fn admit_all(ws: &mut [u32], table: &[u8], numbers: &mut [u32], out: &mut [u
     let mut i: usize = 0;
     while i < count {
         let c = connection(table, i);
-        let answer = admit_sound(ws, c);
-        at = put_admit(
-            out,
-            at,
-            (i + 1) as u32,
-            admission_number(answer),
-            failing_t(answer),
-        );
-        numbers[i] = number_given(answer);
+        let told = tell_admitted(admit_sound(ws, c));
+        at = put_admit(out, at, (i + 1) as u32, told[0], told[2]);
+        numbers[i] = told[1];
         i += 1;
     }
     at

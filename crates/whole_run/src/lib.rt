@@ -1,6 +1,5 @@
 // One whole run of a plan, as text. Document 01, "The program and one whole run".
 mod admissions;
-mod answers;
 mod offers;
 mod places;
 pub mod rooms;

@@ -1,7 +1,6 @@
 // "offers that slot's arrivals".
-use super::answers::offer_number;
-use super::answers::serial_given;
 use super::places::number_of;
+use answers::tell_offered;
 use lines::put_offer;
 use multiplexer::offering::offer_sound;
 use plan::tables::arrival;
@@ -33,14 +32,8 @@ pub fn offer_all(
     let mut i: usize = 0;
     while i < count {
         let a = arrival(due, i);
-        let answer = offer_sound(ws, number_of(numbers, a.place), a.units);
-        at = put_offer(
-            out,
-            at,
-            (from + i + 1) as u32,
-            offer_number(answer),
-            serial_given(answer),
-        );
+        let told = tell_offered(offer_sound(ws, number_of(numbers, a.place), a.units));
+        at = put_offer(out, at, (from + i + 1) as u32, told[0], told[1]);
         i += 1;
     }
     at

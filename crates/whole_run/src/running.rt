@@ -2,10 +2,13 @@
 use super::admissions::admit_all;
 use super::rooms::box_room;
 use super::slots::run_slots;
+use answers::number_of;
 use lines::put_refused;
 use meaning::Header;
 use meaning::Opened;
 use meaning::PlanRead;
+use meaning::Printed;
+use meaning::Refusal;
 use plan::reading::read;
 use plan::tables::arrivals;
 use plan::tables::classes;
@@ -25,12 +28,6 @@ ghost use Rattle.words.specs.Sound.{soundWords};
 ghost use Rattle.plan.specs.Readable.{Readable};
 ghost use Rattle.lines.specs.Put.{Room, Put};
 ghost use Rattle.whole_run.specs.Printing.{RunPromise};
-
-// Printing the run of a plan: the number of bytes written, or the refusal of a buffer that is too short.
-pub enum Printed {
-    Written(usize),
-    TooShort,
-}
 
 // The factors of the class table, and zeros after its end.
 fn copy_factors(classes: &[u8], factors: &mut [u32])
@@ -69,8 +66,7 @@ fn run_read(plan: &[u8], h: Header, out: &mut [u8]) -> usize
     let opened = open(&mut ws, h.interval, h.cycle, &factors[..count]);
     match opened {
         Opened::Done => run_open(&mut ws, plan, h, out),
-        Opened::OffRange => put_refused(out, 0, 2),
-        Opened::TooShort => put_refused(out, 0, 17),
+        Opened::Refused(why) => put_refused(out, 0, number_of(why)),
     }
 }
 
@@ -82,10 +78,7 @@ fn print_run(plan: &[u8], out: &mut [u8]) -> usize
     let r = read(plan);
     match r {
         PlanRead::Good(h) => run_read(plan, h, out),
-        PlanRead::WrongSize => put_refused(out, 0, 13),
-        PlanRead::WrongSum => put_refused(out, 0, 14),
-        PlanRead::WrongLayout => put_refused(out, 0, 15),
-        PlanRead::WrongSlots => put_refused(out, 0, 16),
+        PlanRead::Refused(why) => put_refused(out, 0, number_of(why)),
     }
 }
 
@@ -95,7 +88,7 @@ pub fn run_plan(plan: &[u8], out: &mut [u8]) -> Printed
     ensures { λ r. ⌜ RunPromise (now (plan .entry)) (now (out .entry)) r (now (out .exit)) ⌝ }
 {
     if out.len() < 420000 {
-        return Printed::TooShort;
+        return Printed::Refused(Refusal::TooShort);
     }
     Printed::Written(print_run(plan, out))
 }

@@ -1,9 +1,8 @@
 // "then for each slot offers that slot's arrivals and steps, until no arrivals remain and the box is empty, which is tested before each
 // slot". The box was opened here, so it is sound: no slot tests it again.
-use super::answers::departed_by;
-use super::answers::step_number;
 use super::offers::offer_all;
 use super::places::place_of;
+use answers::tell_stepped;
 use lines::put_depart;
 use lines::put_end;
 use lines::put_stop;
@@ -19,6 +18,7 @@ use tables::link::read_link;
 ghost use Prim.Native.Nat.{_/_, _≤_};
 ghost use mathlib.Core.Path.{_≡_};
 ghost use mathlib.Core.Bool.{true};
+ghost use mathlib.Core.List.{[]};
 ghost use lib.Dec.{eqb};
 ghost use lib.ListN.{length};
 ghost use Rattle.meaning.specs.Box.{packets};
@@ -50,9 +50,19 @@ fn print_stepped(out: &mut [u8], at: usize, numbers: &[u32], answer: Stepped) ->
         ),
         Stepped::Idle => at,
         Stepped::Sending { .. } => at,
-        Stepped::NotSound => at,
-        Stepped::CounterEnded => at,
-        Stepped::TurnBlocked => at,
+        Stepped::Refused(why) => at,
+    }
+}
+
+// The departures of a step: one or none.
+fn departed_by(answer: Stepped) -> u32
+    ensures { λ r. ⌜ r ≡ length (departures [] answer) ⌝ }
+{
+    match answer {
+        Stepped::Idle => 0,
+        Stepped::Sending { .. } => 0,
+        Stepped::Departed { .. } => 1,
+        Stepped::Refused(why) => 0,
     }
 }
 
@@ -105,10 +115,11 @@ fn run_slot(
     let offered = offer_all(ws, due, passed, numbers, out, start);
     let answer = step_sound(ws);
     let at = print_stepped(out, offered, numbers, answer);
+    let told = tell_stepped(answer);
     Slot {
         at,
         passed: passed + due.len() / 12,
-        answer: step_number(answer),
+        answer: told[0],
         departed: departed_by(answer),
     }
 }

@@ -1,26 +1,37 @@
 -- `lines::put_offer` meets its contract.
-use mathlib.Core.Path.{subst, sym}
+use mathlib.Core.Path.{sym, subst}
+use mathlib.Core.List.{[], _∷_}
+use Rattle.meaning.specs.Lines.{ascii, lineText}
 use Rattle.lines.specs.Put.{Room, Put}
-use Rattle.lines.proofs.Texts.{offer-text}
+use Rattle.lines.proofs.Texts.{line-text}
 use borrow.Author.Needs.{needs}
 use Rattle.lines.proofs.put_offer.Statement.{statement}
 use Rattle.lines.proofs.put_offer.Tie as tie
 
-slice-aggregate-put-line3 : tie.Need-slice-aggregate-put-line3
-slice-aggregate-put-line3 c = search needs
+slice-aggregate-put-line : tie.Need-slice-aggregate-put-line
+slice-aggregate-put-line c = search needs
 
-put-line3-requires : tie.Need-put-line3-requires
-put-line3-requires c κs = let s = c .before .before .before in subst (λ l. Room (s .args .out .now) (s .args .at) l) (offer-text (s .args .place) (s .args .answer) (s .args .serial)) (s .pre)
+slice-aggregate-put-line-2 : tie.Need-slice-aggregate-put-line-2
+slice-aggregate-put-line-2 c = search needs
+
+put-line-requires : tie.Need-put-line-requires
+unfolding lineText ascii
+put-line-requires c κs =
+    let s = c .before .before .before .before in
+    let a = s .args in
+    subst (Room (a .out .now) (a .at)) (line-text "OFFER" (a .place) (a .answer ∷ a .serial ∷ [])) (s .pre)
 
 same-length : tie.Need-same-length
 same-length c = search needs
 
 returns : tie.Need-returns
+unfolding lineText ascii
 returns c =
-    let s = c .before .before .before .before .before .before in
-    let p = c .before .before .put-line3 in
-    subst (λ l. Put (s .args .out .now) (p .last .0) (s .args .at) l (p .result)) (sym (offer-text (s .args .place) (s .args .answer) (s .args .serial))) (p .ensures)
+    let a = c .before .before .before .before .before .before .before .args in
+    let p = c .before .before .put-line in
+    subst (λ l. Put (a .out .now) (p .last .0) (a .at) l (p .result))
+    (sym (line-text "OFFER" (a .place) (a .answer ∷ a .serial ∷ []))) (p .ensures)
 
 pub put-offer-spec : {M : Type 1} → statement M
 put-offer-spec =
-    tie.close (tie.spec slice-aggregate-put-line3 put-line3-requires same-length returns)
+    tie.close (tie.spec slice-aggregate-put-line slice-aggregate-put-line-2 put-line-requires same-length returns)

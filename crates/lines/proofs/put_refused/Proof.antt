@@ -1,26 +1,37 @@
 -- `lines::put_refused` meets its contract.
-use mathlib.Core.Path.{subst, sym}
+use mathlib.Core.Path.{sym, subst}
+use mathlib.Core.List.{[]}
+use Rattle.meaning.specs.Lines.{ascii, lineText}
 use Rattle.lines.specs.Put.{Room, Put}
-use Rattle.lines.proofs.Texts.{refused-text}
+use Rattle.lines.proofs.Texts.{line-text}
 use borrow.Author.Needs.{needs}
 use Rattle.lines.proofs.put_refused.Statement.{statement}
 use Rattle.lines.proofs.put_refused.Tie as tie
 
-slice-aggregate-put-line1 : tie.Need-slice-aggregate-put-line1
-slice-aggregate-put-line1 c = search needs
+slice-aggregate-put-line : tie.Need-slice-aggregate-put-line
+slice-aggregate-put-line c = search needs
 
-put-line1-requires : tie.Need-put-line1-requires
-put-line1-requires c κs = let s = c .before .before .before in subst (λ l. Room (s .args .out .now) (s .args .at) l) (refused-text (s .args .answer)) (s .pre)
+slice-aggregate-put-line-2 : tie.Need-slice-aggregate-put-line-2
+slice-aggregate-put-line-2 c = search needs
+
+put-line-requires : tie.Need-put-line-requires
+unfolding lineText ascii
+put-line-requires c κs =
+    let s = c .before .before .before .before in
+    let a = s .args in
+    subst (Room (a .out .now) (a .at)) (line-text "REFUSED" (a .answer) ([])) (s .pre)
 
 same-length : tie.Need-same-length
 same-length c = search needs
 
 returns : tie.Need-returns
+unfolding lineText ascii
 returns c =
-    let s = c .before .before .before .before .before .before in
-    let p = c .before .before .put-line1 in
-    subst (λ l. Put (s .args .out .now) (p .last .0) (s .args .at) l (p .result)) (sym (refused-text (s .args .answer))) (p .ensures)
+    let a = c .before .before .before .before .before .before .before .args in
+    let p = c .before .before .put-line in
+    subst (λ l. Put (a .out .now) (p .last .0) (a .at) l (p .result))
+    (sym (line-text "REFUSED" (a .answer) ([]))) (p .ensures)
 
 pub put-refused-spec : {M : Type 1} → statement M
 put-refused-spec =
-    tie.close (tie.spec slice-aggregate-put-line1 put-line1-requires same-length returns)
+    tie.close (tie.spec slice-aggregate-put-line slice-aggregate-put-line-2 put-line-requires same-length returns)

@@ -1,90 +1,124 @@
 -- `multiplexer::admitting::allowed` meets its contract.
-use Prim.Native.Nat.{_≤_}
-use mathlib.Core.Path.{sym, _∙_}
+use Prim.Native.Nat.{_%_, _≤_}
+use mathlib.Core.Path.{_≡_, sym, ap, _∙_}
+use mathlib.Core.Bool.{true}
 use native.Mathlib.Omega.{arith}
 use borrow.Author.Needs.{needs}
 use borrow.Author.Tests.{not-true, not-false}
-use Rattle.laws.specs.Tests.{within-facts}
-use Rattle.words.specs.Places.{word, cycleAt}
+use lib.Dec.{eqb}
+use Rattle.laws.specs.Tests.{within, within-facts}
+use Rattle.meaning.specs.Numbers.{classCount}
+use Rattle.words.specs.Contents.{contents}
 use Rattle.words.proofs.Counts.{sound-fitting}
 use Rattle.multiplexer.proofs.Admits.{class-off, longest-off, burst-off, period-off, divides}
 use Rattle.multiplexer.proofs.admitting.allowed.Statement.{statement}
 use Rattle.multiplexer.proofs.admitting.allowed.Tie as tie
 
-shared-slice-read-cycle : tie.Need-shared-slice-read-cycle
-shared-slice-read-cycle c = let s = c .before .before in let e = sound-fitting (s .args .ws .now) (s .pre) .enough in omega arith
-
-shared-slice-read-is-within : tie.Need-shared-slice-read-is-within
-shared-slice-read-is-within c = let s = c .before .before .before in let e = sound-fitting (s .args .ws .now) (s .pre) .enough in omega arith
+class-count-requires : tie.Need-class-count-requires
+class-count-requires c κs = let s = c .before in sound-fitting (s .args .ws .now) (s .pre)
 
 is-within-requires : tie.Need-is-within-requires
 is-within-requires c κs = search needs
 
 returns : tie.Need-returns
 returns c =
-    let s = c .before .before .before .before .before in
-    let ws = s .args .ws .now in
-    let a = s .args .c in
-    class-off ws a (sym (c .before .is-within .ensures) ∙ not-true (c .before .is-within .result) (c .if1 .taken))
+    let a = c .before .before .before .before .args in
+    let test = c .before .is-within in
+    let count = c .before .before .class-count in
+    class-off (contents (a .ws .now) .settings) (a .c)
+    (ap (within 1 (a .c .class)) (sym (count .ensures .0)) ∙ sym (test .ensures) ∙ not-true (test .result) (c .if1 .taken))
+
+-- The class is in range.
+class-in : (c : tie.Else1) →
+    within 1 (c .before .before .before .before .args .c .class) (classCount (contents (c .before .before .before .before .args .ws .now) .settings)) ≡ true
+class-in c =
+    let a = c .before .before .before .before .args in
+    let test = c .before .is-within in
+    let count = c .before .before .class-count in
+    ap (within 1 (a .c .class)) (sym (count .ensures .0)) ∙ sym (test .ensures) ∙ not-false (test .result) (c .if1 .left)
 
 is-within-requires-2 : tie.Need-is-within-requires-2
 is-within-requires-2 c κs = search needs
 
 returns-2 : tie.Need-returns-2
 returns-2 c =
-    let s = c .before .before .before .before .before .before .before in
-    let ws = s .args .ws .now in
-    let a = s .args .c in
-    longest-off ws a (sym (c .before .before .before .is-within .ensures) ∙ not-false (c .before .before .before .is-within .result) (c .before .before .if1 .left)) (sym (c .before .is-within2 .ensures) ∙ not-true (c .before .is-within2 .result) (c .if2 .taken))
+    let a = c .before .before .before .before .before .before .args in
+    let test = c .before .is-within2 in
+    longest-off (contents (a .ws .now) .settings) (a .c) (class-in (c .before .before))
+    (sym (test .ensures) ∙ not-true (test .result) (c .if2 .taken))
+
+-- s is in range.
+longest-in : (c : tie.Else2) → within 1 (c .before .before .before .before .before .before .args .c .longest) 64 ≡ true
+longest-in c = let test = c .before .is-within2 in sym (test .ensures) ∙ not-false (test .result) (c .if2 .left)
 
 is-within-requires-3 : tie.Need-is-within-requires-3
 is-within-requires-3 c κs = search needs
 
 returns-3 : tie.Need-returns-3
 returns-3 c =
-    let s = c .before .before .before .before .before .before .before .before .before in
-    let ws = s .args .ws .now in
-    let a = s .args .c in
-    burst-off ws a (sym (c .before .before .before .before .before .is-within .ensures) ∙ not-false (c .before .before .before .before .before .is-within .result) (c .before .before .before .before .if1 .left)) (sym (c .before .before .before .is-within2 .ensures) ∙ not-false (c .before .before .before .is-within2 .result) (c .before .before .if2 .left)) (sym (c .before .is-within3 .ensures) ∙ not-true (c .before .is-within3 .result) (c .if3 .taken))
+    let a = c .before .before .before .before .before .before .before .before .args in
+    let test = c .before .is-within3 in
+    burst-off (contents (a .ws .now) .settings) (a .c) (class-in (c .before .before .before .before)) (longest-in (c .before .before))
+    (sym (test .ensures) ∙ not-true (test .result) (c .if3 .taken))
+
+-- b is in range.
+burst-in : (c : tie.Else3) → within 1 (c .before .before .before .before .before .before .before .before .args .c .burst) 64 ≡ true
+burst-in c = let test = c .before .is-within3 in sym (test .ensures) ∙ not-false (test .result) (c .if3 .left)
+
+cycle-requires : tie.Need-cycle-requires
+cycle-requires c κs = let s = c .before .before .before .before .before .before .before .before in sound-fitting (s .args .ws .now) (s .pre)
 
 is-within-requires-4 : tie.Need-is-within-requires-4
 is-within-requires-4 c κs = search needs
 
 returns-4 : tie.Need-returns-4
 returns-4 c =
-    let s = c .before .before .before .before .before .before .before .before .before .before .before in
-    let ws = s .args .ws .now in
-    let a = s .args .c in
-    period-off ws a (sym (c .before .before .before .before .before .before .before .is-within .ensures) ∙ not-false (c .before .before .before .before .before .before .before .is-within .result) (c .before .before .before .before .before .before .if1 .left)) (sym (c .before .before .before .before .before .is-within2 .ensures) ∙ not-false (c .before .before .before .before .before .is-within2 .result) (c .before .before .before .before .if2 .left)) (sym (c .before .before .before .is-within3 .ensures) ∙ not-false (c .before .before .before .is-within3 .result) (c .before .before .if3 .left)) (sym (c .before .is-within4 .ensures) ∙ not-true (c .before .is-within4 .result) (c .if4 .taken))
+    let a = c .before .before .before .before .before .before .before .before .before .before .before .args in
+    let test = c .before .is-within4 in
+    let cycle = c .before .before .cycle in
+    period-off (contents (a .ws .now) .settings) (a .c) (class-in (c .before .before .before .before .before .before .before)) (longest-in (c .before .before .before .before .before)) (burst-in (c .before .before .before))
+    (ap (within 1 (a .c .period)) (sym (cycle .ensures)) ∙ sym (test .ensures) ∙ not-true (test .result) (c .if4 .taken))
+
+-- T is in range.
+period-in : (c : tie.Else4) →
+    (let a = c .before .before .before .before .before .before .before .before .before .before .before .args in
+    within 1 (a .c .period) (contents (a .ws .now) .settings .cycle) ≡ true)
+period-in c =
+    let a = c .before .before .before .before .before .before .before .before .before .before .before .args in
+    let test = c .before .is-within4 in
+    let cycle = c .before .before .cycle in
+    ap (within 1 (a .c .period)) (sym (cycle .ensures)) ∙ sym (test .ensures) ∙ not-false (test .result) (c .if4 .left)
+
+cycle-requires-2 : tie.Need-cycle-requires-2
+cycle-requires-2 c κs = let s = c .before .before .before .before .before .before .before .before .before .before .before in sound-fitting (s .args .ws .now) (s .pre)
 
 rem-result : tie.Need-rem-result
 rem-result c =
-    let s = c .before .before .before .before .before .before .before .before .before .before .before in
-    let ws = s .args .ws .now in
-    let a = s .args .c in
-    let k : 1 ≤ a .period = within-facts 1 (a .period) (word ws cycleAt) (sym (c .before .is-within4 .ensures) ∙ not-false (c .before .is-within4 .result) (c .if4 .left)) .0 in
+    let a = c .before .before .before .before .before .before .before .before .before .before .before .before .args in
+    let k : 1 ≤ a .c .period = within-facts 1 (a .c .period) (contents (a .ws .now) .settings .cycle) (period-in (c .before)) .0 in
     omega arith
 
 returns-5 : tie.Need-returns-5
 returns-5 c =
-    let s = c .before .before .before .before .before .before .before .before .before .before .before in
-    let ws = s .args .ws .now in
-    let a = s .args .c in
-    divides ws a (sym (c .before .before .before .before .before .before .before .is-within .ensures) ∙ not-false (c .before .before .before .before .before .before .before .is-within .result) (c .before .before .before .before .before .before .if1 .left)) (sym (c .before .before .before .before .before .is-within2 .ensures) ∙ not-false (c .before .before .before .before .before .is-within2 .result) (c .before .before .before .before .if2 .left)) (sym (c .before .before .before .is-within3 .ensures) ∙ not-false (c .before .before .before .is-within3 .result) (c .before .before .if3 .left)) (sym (c .before .is-within4 .ensures) ∙ not-false (c .before .is-within4 .result) (c .if4 .left))
+    let a = c .before .before .before .before .before .before .before .before .before .before .before .before .args in
+    ap (λ m. eqb (m % a .c .period) 0) (c .cycle2 .ensures) ∙
+    divides (contents (a .ws .now) .settings) (a .c) (class-in (c .before .before .before .before .before .before .before .before)) (longest-in (c .before .before .before .before .before .before))
+    (burst-in (c .before .before .before .before)) (period-in (c .before))
 
 pub allowed-spec : {M : Type 1} → statement M
 allowed-spec =
     tie.close
     (tie.spec
-    shared-slice-read-cycle
-    shared-slice-read-is-within
+    class-count-requires
     is-within-requires
     returns
     is-within-requires-2
     returns-2
     is-within-requires-3
     returns-3
+    cycle-requires
     is-within-requires-4
     returns-4
+    cycle-requires-2
     rem-result
     returns-5)

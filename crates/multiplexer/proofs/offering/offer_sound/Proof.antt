@@ -3,6 +3,7 @@ use mathlib.Core.Path.{refl, sym, ap, ap₂, subst, _∙_}
 use native.Mathlib.Omega.{arith}
 use borrow.Author.Tests.{not-true, not-false}
 use Rattle.laws.specs.Tests.{within}
+use Rattle.meaning.specs.declared.Refusal.{Refusal}
 use Rattle.meaning.specs.declared.Offered.{Offered}
 use Rattle.meaning.specs.Envelope.{conforms}
 use Rattle.meaning.specs.Calls.{afterOffer}
@@ -31,7 +32,7 @@ returns c =
     let ws = s .args .ws .now in
     let n = s .args .n in
     let units = s .args .units in
-    refused ws n units (s .pre) Offered.NoConnection (answer-unknown (contents ws) n units (sound-contents ws (s .pre)) (stands-as (contents ws) n (c .before .before .standing-count .result) (c .before .before .standing-count .ensures) (c .before .is-within .result) (c .before .is-within .ensures) (not-true (c .before .is-within .result) (c .if1 .taken)))) refl
+    refused ws n units (s .pre) (Offered.Refused Refusal.NoConnection) (answer-unknown (contents ws) n units (sound-contents ws (s .pre)) (stands-as (contents ws) n (c .before .before .standing-count .result) (c .before .before .standing-count .ensures) (c .before .is-within .result) (c .before .is-within .ensures) (not-true (c .before .is-within .result) (c .if1 .taken)))) refl
 
 read-row-requires : tie.Need-read-row-requires
 read-row-requires c κs =
@@ -56,7 +57,7 @@ returns-2 c =
     let n = s .args .n in
     let units = s .args .units in
     let row = c .before .before .read-row in
-    refused ws n units (s .pre) Offered.WrongLength (answer-length (contents ws) n units (sound-contents ws (s .pre)) (stands-as (contents ws) n (c .before .before .before .before .before .before .standing-count .result) (c .before .before .before .before .before .before .standing-count .ensures) (c .before .before .before .before .before .is-within .result) (c .before .before .before .before .before .is-within .ensures) (not-false (c .before .before .before .before .before .is-within .result) (c .before .before .before .before .if1 .left))) (ap (λ q. within 1 units (q .longest)) (row .ensures .0) ∙ sym (c .before .is-within2 .ensures) ∙ not-true (c .before .is-within2 .result) (c .if2 .taken))) refl
+    refused ws n units (s .pre) (Offered.Refused Refusal.WrongLength) (answer-length (contents ws) n units (sound-contents ws (s .pre)) (stands-as (contents ws) n (c .before .before .before .before .before .before .standing-count .result) (c .before .before .before .before .before .before .standing-count .ensures) (c .before .before .before .before .before .is-within .result) (c .before .before .before .before .before .is-within .ensures) (not-false (c .before .before .before .before .before .is-within .result) (c .before .before .before .before .if1 .left))) (ap (λ q. within 1 units (q .longest)) (row .ensures .0) ∙ sym (c .before .is-within2 .ensures) ∙ not-true (c .before .is-within2 .result) (c .if2 .taken))) refl
 
 counter-requires : tie.Need-counter-requires
 counter-requires c κs = let s = c .before .before .before .before .before .before .before .before .before .before in sound-fitting (s .args .ws .now) (s .pre)
@@ -81,7 +82,7 @@ returns-3 c =
     let n = s .args .n in
     let units = s .args .units in
     let row = c .before .before .before .before .before .before .read-row in
-    refused ws n units (s .pre) Offered.NotFitting
+    refused ws n units (s .pre) (Offered.Refused Refusal.NotFitting)
     (answer-unfit (contents ws) n units (sound-contents ws (s .pre)) (stands-as (contents ws) n (c .before .before .before .before .before .before .before .before .before .before .standing-count .result) (c .before .before .before .before .before .before .before .before .before .before .standing-count .ensures) (c .before .before .before .before .before .before .before .before .before .is-within .result) (c .before .before .before .before .before .before .before .before .before .is-within .ensures) (not-false (c .before .before .before .before .before .before .before .before .before .is-within .result) (c .before .before .before .before .before .before .before .before .if1 .left))) (ap (λ q. within 1 units (q .longest)) (row .ensures .0) ∙ sym (c .before .before .before .before .before .is-within2 .ensures) ∙ not-false (c .before .before .before .before .before .is-within2 .result) (c .before .before .before .before .if2 .left)) (ap₂ (λ q a. conforms q a (contents ws .counter)) (row .ensures .0) (row .ensures .1) ∙ (ap (conforms (row .result .asked) (row .result .allowance)) (sym (c .before .before .counter .ensures)) ∙ sym (c .before .fits2 .ensures) ∙ not-true (c .before .fits2 .result) (c .if3 .taken)))) refl
 
 waiting-count-requires : tie.Need-waiting-count-requires
@@ -98,7 +99,7 @@ returns-4 c =
     let n = s .args .n in
     let units = s .args .units in
     let row = c .before .before .before .before .before .before .before .before .before .read-row in
-    refused ws n units (s .pre) Offered.StoreFull
+    refused ws n units (s .pre) (Offered.Refused Refusal.StoreFull)
     (answer-full (contents ws) n units (sound-contents ws (s .pre)) (stands-as (contents ws) n (c .before .before .before .before .before .before .before .before .before .before .before .before .before .standing-count .result) (c .before .before .before .before .before .before .before .before .before .before .before .before .before .standing-count .ensures) (c .before .before .before .before .before .before .before .before .before .before .before .before .is-within .result) (c .before .before .before .before .before .before .before .before .before .before .before .before .is-within .ensures) (not-false (c .before .before .before .before .before .before .before .before .before .before .before .before .is-within .result) (c .before .before .before .before .before .before .before .before .before .before .before .if1 .left))) (ap (λ q. within 1 units (q .longest)) (row .ensures .0) ∙ sym (c .before .before .before .before .before .before .before .before .is-within2 .ensures) ∙ not-false (c .before .before .before .before .before .before .before .before .is-within2 .result) (c .before .before .before .before .before .before .before .if2 .left)) (ap₂ (λ q a. conforms q a (contents ws .counter)) (row .ensures .0) (row .ensures .1) ∙ (ap (conforms (row .result .asked) (row .result .allowance)) (sym (c .before .before .before .before .before .counter .ensures)) ∙ sym (c .before .before .before .before .fits2 .ensures) ∙ not-false (c .before .before .before .before .fits2 .result) (c .before .before .before .if3 .left)))
     (omega (arith, c .before .waiting-count .ensures, c .if4 .taken))) refl
 

@@ -2,10 +2,12 @@
 use Prim.Native.Nat.{_-_, _≤_}
 use mathlib.Core.Path.{_≡_, refl, ap, _∙_}
 use native.Mathlib.Omega.{arith}
-use lib.ListN.{length, getD, length-set}
+use lib.ListN.{length, length-set}
 use Rattle.meaning.specs.declared.Admitted.{Admitted}
-use Rattle.meaning.specs.Answers.{admitted}
+use Rattle.meaning.specs.Answers.{told, admitted}
+use Rattle.meaning.specs.Calls.{admissionAnswer}
 use Rattle.words.specs.Contents.{contents}
+use Rattle.answers.proofs.Tells.{told-number, told-field}
 use Rattle.whole_run.proofs.Admitting.{Admitting, admit-start, admit-room, admit-on, admit-end}
 use borrow.Author.Needs.{needs}
 use Rattle.whole_run.proofs.admissions.admit_all.Statement.{statement}
@@ -13,7 +15,11 @@ use Rattle.whole_run.proofs.admissions.admit_all.Tie as tie
 
 abbrev Inv-loop : tie.InvT-loop
 Inv-loop ws₀ table numbers₀ out₀ count at₀ i₀ ws numbers out at i =
-    (i ≤ count) × (length ws ≡ length ws₀) × (length numbers ≡ length numbers₀) × (length out ≡ length out₀) × Admitting table (contents ws₀) i ws numbers out₀ out at
+    (i ≤ count) ×
+    (length ws ≡ length ws₀) ×
+    (length numbers ≡ length numbers₀) ×
+    (length out ≡ length out₀) ×
+    Admitting table (contents ws₀) i ws numbers out₀ out at
 
 abbrev μ-loop : tie.MeasureT-loop
 μ-loop ws₀ table numbers₀ out₀ count at₀ i₀ ws numbers out at i = count - i
@@ -27,63 +33,80 @@ connection-requires c κs = search needs
 admit-sound-requires : tie.Need-admit-sound-requires Inv-loop μ-loop
 admit-sound-requires c κs = c .before .before .before .loop .inv .4 .still-sound
 
+tell-admitted-requires : tie.Need-tell-admitted-requires Inv-loop μ-loop
+tell-admitted-requires c κs = search needs
+
+-- What is told is the answer of this admission.
+told-as : (c : tie.After-tell-admitted Inv-loop μ-loop) →
+    (let box = contents (c .before .before .before .before .before .before .before .loop .ws) in
+    c .tell-admitted .result ≡ told (admitted (admissionAnswer box (c .before .before .before .before .before .connection .result))))
+told-as c =
+    c .tell-admitted .ensures ∙ ap (λ (a : Admitted). told (admitted a)) (c .before .before .before .admit-sound .ensures .0)
+
 add-put-admit : tie.Need-add-put-admit Inv-loop μ-loop
 add-put-admit c =
-    omega (arith, c .before .before .before .before .before .before .loop-test .taken, c .before .before .before .before .before .before .before .before .before .before .before .before .pre .0 .1, c .before .before .before .before .before .before .before .before .before .before .before .before .pre .0 .2)
+    let s = c .before .before .before .before .before .before .before .before .before .before .before .before .before in
+    omega (arith, c .before .before .before .before .before .before .before .loop-test .taken, s .pre .0 .1, s .pre .0 .2)
 
 cast-put-admit : tie.Need-cast-put-admit Inv-loop μ-loop
 cast-put-admit c =
-    omega (arith, c .before .before .before .before .before .before .loop-test .taken, c .before .before .before .before .before .before .before .before .before .before .before .before .pre .0 .1, c .before .before .before .before .before .before .before .before .before .before .before .before .pre .0 .2)
+    let s = c .before .before .before .before .before .before .before .before .before .before .before .before .before in
+    omega (arith, c .before .before .before .before .before .before .before .loop-test .taken, s .pre .0 .1, s .pre .0 .2)
 
-admission-number-requires : tie.Need-admission-number-requires Inv-loop μ-loop
-admission-number-requires c κs = search needs
+array-read-put-admit : tie.Need-array-read-put-admit Inv-loop μ-loop
+array-read-put-admit c = search needs
 
-failing-t-requires : tie.Need-failing-t-requires Inv-loop μ-loop
-failing-t-requires c κs = search needs
+array-read-put-admit-2 : tie.Need-array-read-put-admit-2 Inv-loop μ-loop
+array-read-put-admit-2 c = search needs
 
 put-admit-requires : tie.Need-put-admit-requires Inv-loop μ-loop
 put-admit-requires c κs =
-    let s = c .before .before .before .before .before .before .before .before .before .before .before .before .before .before in
-    let answer = c .before .before .before .before .before .admit-sound .ensures .0 in
-    admit-room (s .args .table .now) (c .before .before .before .before .before .before .before .before .before .loop .i) _ (c .before .before .before .before .before .before .before .connection .ensures) (c .before .before .before .before .before .before .before .before .loop-test .taken) (s .pre .1) (c .before .before .before .before .before .before .before .before .before .loop .inv .4) _ _ _ (omega arith)
-    (c .before .admission-number .ensures ∙ ap (λ (a : Admitted). admitted a .number) answer)
-    (c .failing-t .ensures ∙ ap (λ (a : Admitted). getD (admitted a .fields) 1 0) answer)
+    let s = c .before .before .before .before .before .before .before .before .before .before .before .before .before in
+    let loop = c .before .before .before .before .before .before .before .before .loop in
+    let below = c .before .before .before .before .before .before .before .loop-test .taken in
+    let read = c .before .before .before .before .before .before .connection in
+    let answer = told-as (c .before) in
+    admit-room (s .args .table .now) (loop .i) _ (read .ensures) below (s .pre .1) (loop .inv .4) _ _ _ (omega arith)
+    (told-number _ answer) (told-field _ answer 1)
 
-number-given-requires : tie.Need-number-given-requires Inv-loop μ-loop
-number-given-requires c κs = search needs
+array-read-numbers : tie.Need-array-read-numbers Inv-loop μ-loop
+array-read-numbers c = search needs
 
 mul-numbers : tie.Need-mul-numbers Inv-loop μ-loop
 mul-numbers c =
-    omega (arith, c .before .before .before .before .before .before .before .before .before .before .before .before .loop-test .taken, c .before .before .before .before .before .before .before .before .before .before .before .before .before .before .before .before .before .before .pre .0 .1, c .before .before .before .before .before .before .before .before .before .before .before .before .before .before .before .before .before .before .pre .0 .2)
+    let s = c .before .before .before .before .before .before .before .before .before .before .before .before .before .before .before .before in
+    omega (arith, c .before .before .before .before .before .before .before .before .before .before .loop-test .taken, s .pre .0 .1, s .pre .0 .2)
 
 slice-write-numbers : tie.Need-slice-write-numbers Inv-loop μ-loop
 slice-write-numbers c =
-    omega (arith, c .before .before .before .before .before .before .before .before .before .before .before .before .loop-test .taken, c .before .before .before .before .before .before .before .before .before .before .before .before .before .before .before .before .before .before .pre .0 .1, c .before .before .before .before .before .before .before .before .before .before .before .before .before .loop .inv .2)
+    let s = c .before .before .before .before .before .before .before .before .before .before .before .before .before .before .before .before in
+    omega (arith, c .before .before .before .before .before .before .before .before .before .before .loop-test .taken, s .pre .0 .1, c .before .before .before .before .before .before .before .before .before .before .before .loop .inv .2)
 
 add-i : tie.Need-add-i Inv-loop μ-loop
 add-i c =
-    omega (arith, c .before .before .before .before .before .before .before .before .before .before .before .before .loop-test .taken, c .before .before .before .before .before .before .before .before .before .before .before .before .before .before .before .before .before .before .pre .0 .1, c .before .before .before .before .before .before .before .before .before .before .before .before .before .before .before .before .before .before .pre .0 .2)
+    let s = c .before .before .before .before .before .before .before .before .before .before .before .before .before .before .before .before in
+    omega (arith, c .before .before .before .before .before .before .before .before .before .before .loop-test .taken, s .pre .0 .1, s .pre .0 .2)
 
 loop-less : tie.Need-loop-less Inv-loop μ-loop
-loop-less c =
-    omega (arith, c .before .before .before .before .before .before .before .before .before .before .before .before .loop-test .taken)
+loop-less c = omega (arith, c .before .before .before .before .before .before .before .before .before .before .loop-test .taken)
 
 loop-again : tie.Need-loop-again Inv-loop μ-loop
 loop-again c =
-    let s = c .before .before .before .before .before .before .before .before .before .before .before .before .before .before .before .before .before .before in
-    let i = c .before .before .before .before .before .before .before .before .before .before .before .before .before .loop .inv in
-    let below = c .before .before .before .before .before .before .before .before .before .before .before .before .loop-test .taken in
-    let answer = c .before .before .before .before .before .before .before .before .before .admit-sound .ensures .0 in (
+    let s = c .before .before .before .before .before .before .before .before .before .before .before .before .before .before .before .before in
+    let loop = c .before .before .before .before .before .before .before .before .before .before .before .loop in
+    let i = loop .inv in
+    let below = c .before .before .before .before .before .before .before .before .before .before .loop-test .taken in
+    let read = c .before .before .before .before .before .before .before .before .before .connection in
+    let admission = c .before .before .before .before .before .before .before .admit-sound in
+    let answer = told-as (c .before .before .before .before) in
+    let line = c .before .before .put-admit in (
       omega (arith, below),
-      omega (arith, i .1, c .before .before .before .before .before .before .before .before .before .admit-sound .kept .0),
+      omega (arith, i .1, admission .kept .0),
       simp length-set (omega (arith, i .2)),
-      omega (arith, i .3, c .before .before .before .put-admit .kept .0),
-      admit-on (s .args .table .now) (c .before .before .before .before .before .before .before .before .before .before .before .before .before .loop .i) _ (c .before .before .before .before .before .before .before .before .before .before .before .connection .ensures) below (s .pre .1) (i .4) _ _ _ (omega arith)
-          (c .before .before .before .before .before .admission-number .ensures ∙ ap (λ (a : Admitted). admitted a .number) answer)
-          (c .before .before .before .before .failing-t .ensures ∙ ap (λ (a : Admitted). getD (admitted a .fields) 1 0) answer)
-          _ _ (omega (arith, below, s .pre .0 .1, i .2))
-          (c .number-given .ensures ∙ ap (λ (a : Admitted). getD (admitted a .fields) 0 0) answer)
-          (c .before .before .before .before .before .before .before .before .before .admit-sound .ensures .1) (c .before .before .before .put-admit .ensures),
+      omega (arith, i .3, line .kept .0),
+      admit-on (s .args .table .now) (loop .i) _ (read .ensures) below (s .pre .1) (i .4) _ _ _ (omega arith)
+          (told-number _ answer) (told-field _ answer 1) _ _ (omega (arith, below, s .pre .0 .1, i .2))
+          (told-field _ answer 0) (admission .ensures .1) (line .ensures),
     )
 
 same-length : tie.Need-same-length Inv-loop μ-loop
@@ -107,12 +130,13 @@ admit-all-spec =
     loop-holds
     connection-requires
     admit-sound-requires
+    tell-admitted-requires
     add-put-admit
     cast-put-admit
-    admission-number-requires
-    failing-t-requires
+    array-read-put-admit
+    array-read-put-admit-2
     put-admit-requires
-    number-given-requires
+    array-read-numbers
     mul-numbers
     slice-write-numbers
     add-i

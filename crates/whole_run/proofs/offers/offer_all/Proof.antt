@@ -2,12 +2,14 @@
 use Prim.Native.Nat.{ℕ, _-_, _≤_}
 use mathlib.Core.Path.{_≡_, refl, ap, subst, _∙_}
 use native.Mathlib.Omega.{arith}
-use lib.ListN.{length, getD}
+use lib.ListN.{length}
 use Rattle.meaning.specs.declared.Offered.{Offered}
-use Rattle.meaning.specs.Answers.{offered}
+use Rattle.meaning.specs.Answers.{told, offered}
 use Rattle.meaning.specs.Calls.{offerAnswer, afterOffer}
+use Rattle.meaning.specs.Run.{numberOf}
 use Rattle.words.specs.Contents.{contents}
 use Rattle.multiplexer.specs.Promised.{Leaves}
+use Rattle.answers.proofs.Tells.{told-number, told-field}
 use Rattle.whole_run.proofs.Offering.{Offering, offer-start, offer-room, offer-on, offer-end}
 use borrow.Author.Needs.{needs}
 use Rattle.whole_run.proofs.offers.offer_all.Statement.{statement}
@@ -15,7 +17,10 @@ use Rattle.whole_run.proofs.offers.offer_all.Tie as tie
 
 abbrev Inv-loop : tie.InvT-loop
 Inv-loop ws₀ due from numbers out₀ start count at₀ i₀ ws out at i =
-    (i ≤ count) × (length ws ≡ length ws₀) × (length out ≡ length out₀) × Offering numbers due from (contents ws₀) i ws out₀ out start at
+    (i ≤ count) ×
+    (length ws ≡ length ws₀) ×
+    (length out ≡ length out₀) ×
+    Offering numbers due from (contents ws₀) i ws out₀ out start at
 
 abbrev μ-loop : tie.MeasureT-loop
 μ-loop ws₀ due from numbers out₀ start count at₀ i₀ ws out at i = count - i
@@ -32,58 +37,74 @@ number-of-requires c κs = search needs
 offer-sound-requires : tie.Need-offer-sound-requires Inv-loop μ-loop
 offer-sound-requires c κs = c .before .before .before .before .loop .inv .3 .still-sound
 
+tell-offered-requires : tie.Need-tell-offered-requires Inv-loop μ-loop
+tell-offered-requires c κs = search needs
+
+-- What is told is the answer of this offer.
+told-as : (c : tie.After-tell-offered Inv-loop μ-loop) →
+    (let box = contents (c .before .before .before .before .before .before .before .before .loop .ws) in
+    let a = c .before .before .before .before .before .before .arrival .result in
+    let n = numberOf (c .before .before .before .before .before .before .before .before .before .before .before .before .before .args .numbers .now) (a .place) in
+    c .tell-offered .result ≡ told (offered (offerAnswer box n (a .units))))
+told-as c =
+    let box = contents (c .before .before .before .before .before .before .before .before .loop .ws) in
+    let units = c .before .before .before .before .before .before .arrival .result .units in
+    let number = c .before .before .before .before .number-of .ensures in
+    let answer = c .before .before .before .offer-sound .ensures .0 ∙ ap (λ (n : ℕ). offerAnswer box n units) number in
+    c .tell-offered .ensures ∙ ap (λ (a : Offered). told (offered a)) answer
+
 add-put-offer : tie.Need-add-put-offer Inv-loop μ-loop
-add-put-offer c =
-    omega (arith, c .before .before .before .before .before .before .before .loop-test .taken, c .before .before .before .before .before .before .before .before .before .before .before .before .before .pre .0 .1)
+add-put-offer c = omega (arith, c .before .before .before .before .before .before .before .before .loop-test .taken, c .before .before .before .before .before .before .before .before .before .before .before .before .before .before .pre .0 .1)
 
 add-put-offer-2 : tie.Need-add-put-offer-2 Inv-loop μ-loop
-add-put-offer-2 c =
-    omega (arith, c .before .before .before .before .before .before .before .loop-test .taken, c .before .before .before .before .before .before .before .before .before .before .before .before .before .pre .0 .1)
+add-put-offer-2 c = omega (arith, c .before .before .before .before .before .before .before .before .loop-test .taken, c .before .before .before .before .before .before .before .before .before .before .before .before .before .before .pre .0 .1)
 
 cast-put-offer : tie.Need-cast-put-offer Inv-loop μ-loop
-cast-put-offer c =
-    omega (arith, c .before .before .before .before .before .before .before .loop-test .taken, c .before .before .before .before .before .before .before .before .before .before .before .before .before .pre .0 .1)
+cast-put-offer c = omega (arith, c .before .before .before .before .before .before .before .before .loop-test .taken, c .before .before .before .before .before .before .before .before .before .before .before .before .before .before .pre .0 .1)
 
-offer-number-requires : tie.Need-offer-number-requires Inv-loop μ-loop
-offer-number-requires c κs = search needs
+array-read-put-offer : tie.Need-array-read-put-offer Inv-loop μ-loop
+array-read-put-offer c = search needs
 
-serial-given-requires : tie.Need-serial-given-requires Inv-loop μ-loop
-serial-given-requires c κs = search needs
+array-read-put-offer-2 : tie.Need-array-read-put-offer-2 Inv-loop μ-loop
+array-read-put-offer-2 c = search needs
 
 put-offer-requires : tie.Need-put-offer-requires Inv-loop μ-loop
 put-offer-requires c κs =
-    let s = c .before .before .before .before .before .before .before .before .before .before .before .before .before .before .before in
-    let box = contents (c .before .before .before .before .before .before .before .before .before .before .loop .ws) in
-    let units = c .before .before .before .before .before .before .before .before .arrival .result .units in
-    let answer = c .before .before .before .before .before .offer-sound .ensures .0 ∙ ap (λ (n : ℕ). offerAnswer box n units) (c .before .before .before .before .before .before .number-of .ensures) in
-    offer-room (s .args .numbers .now) (s .args .due .now) (s .args .from) (c .before .before .before .before .before .before .before .before .before .before .loop .i) _ (c .before .before .before .before .before .before .before .before .arrival .ensures) (c .before .before .before .before .before .before .before .before .before .loop-test .taken) (s .pre .1) (c .before .before .before .before .before .before .before .before .before .before .loop .inv .3) _ _ _ (omega arith)
-    (c .before .offer-number .ensures ∙ ap (λ (a : Offered). offered a .number) answer)
-    (c .serial-given .ensures ∙ ap (λ (a : Offered). getD (offered a .fields) 0 0) answer)
+    let s = c .before .before .before .before .before .before .before .before .before .before .before .before .before .before in
+    let loop = c .before .before .before .before .before .before .before .before .before .loop in
+    let below = c .before .before .before .before .before .before .before .before .loop-test .taken in
+    let read = c .before .before .before .before .before .before .before .arrival in
+    let answer = told-as (c .before) in
+    offer-room (s .args .numbers .now) (s .args .due .now) (s .args .from) (loop .i) _ (read .ensures) below (s .pre .1) (loop .inv .3)
+    _ _ _ (omega arith) (told-number _ answer) (told-field _ answer 0)
 
 add-i : tie.Need-add-i Inv-loop μ-loop
-add-i c =
-    omega (arith, c .before .before .before .before .before .before .before .before .before .before .before .before .loop-test .taken, c .before .before .before .before .before .before .before .before .before .before .before .before .before .before .before .before .before .before .pre .0 .1)
+add-i c = omega (arith, c .before .before .before .before .before .before .before .before .before .before .before .loop-test .taken, c .before .before .before .before .before .before .before .before .before .before .before .before .before .before .before .before .before .pre .0 .1)
 
 loop-less : tie.Need-loop-less Inv-loop μ-loop
-loop-less c =
-    omega (arith, c .before .before .before .before .before .before .before .before .before .before .before .before .loop-test .taken)
+loop-less c = omega (arith, c .before .before .before .before .before .before .before .before .before .before .before .loop-test .taken)
 
 loop-again : tie.Need-loop-again Inv-loop μ-loop
 loop-again c =
-    let s = c .before .before .before .before .before .before .before .before .before .before .before .before .before .before .before .before .before .before in
-    let i = c .before .before .before .before .before .before .before .before .before .before .before .before .before .loop .inv in
-    let below = c .before .before .before .before .before .before .before .before .before .before .before .before .loop-test .taken in
-    let box = contents (c .before .before .before .before .before .before .before .before .before .before .before .before .before .loop .ws) in
-    let units = c .before .before .before .before .before .before .before .before .before .before .before .arrival .result .units in
-    let answer = c .before .before .before .before .before .before .before .before .offer-sound .ensures .0 ∙ ap (λ (n : ℕ). offerAnswer box n units) (c .before .before .before .before .before .before .before .before .before .number-of .ensures) in
-    let left = subst (λ (n : ℕ). Leaves (c .before .before .before .before .before .before .before .before .before .before .before .before .before .loop .ws) (c .before .before .before .before .before .before .before .before .offer-sound .last .0) (afterOffer box n units (offerAnswer box n units))) (c .before .before .before .before .before .before .before .before .before .number-of .ensures) (c .before .before .before .before .before .before .before .before .offer-sound .ensures .1) in (
+    let s = c .before .before .before .before .before .before .before .before .before .before .before .before .before .before .before .before .before in
+    let loop = c .before .before .before .before .before .before .before .before .before .before .before .before .loop in
+    let i = loop .inv in
+    let below = c .before .before .before .before .before .before .before .before .before .before .before .loop-test .taken in
+    let read = c .before .before .before .before .before .before .before .before .before .before .arrival in
+    let number = c .before .before .before .before .before .before .before .before .number-of in
+    let offer = c .before .before .before .before .before .before .before .offer-sound in
+    let answer = told-as (c .before .before .before .before) in
+    let line = c .before .before .put-offer in
+    let box = contents (loop .ws) in
+    let units = read .result .units in
+    let left =
+    subst (λ (n : ℕ). Leaves (loop .ws) (offer .last .0) (afterOffer box n units (offerAnswer box n units)))
+    (number .ensures) (offer .ensures .1) in (
       omega (arith, below),
-      omega (arith, i .1, c .before .before .before .before .before .before .before .before .offer-sound .kept .0),
-      omega (arith, i .2, c .before .before .put-offer .kept .0),
-      offer-on (s .args .numbers .now) (s .args .due .now) (s .args .from) (c .before .before .before .before .before .before .before .before .before .before .before .before .before .loop .i) _ (c .before .before .before .before .before .before .before .before .before .before .before .arrival .ensures) below (s .pre .1) (i .3) _ _ _ (omega arith)
-          (c .before .before .before .before .offer-number .ensures ∙ ap (λ (a : Offered). offered a .number) answer)
-          (c .before .before .before .serial-given .ensures ∙ ap (λ (a : Offered). getD (offered a .fields) 0 0) answer)
-          _ left (c .before .before .put-offer .ensures),
+      omega (arith, i .1, offer .kept .0),
+      omega (arith, i .2, line .kept .0),
+      offer-on (s .args .numbers .now) (s .args .due .now) (s .args .from) (loop .i) _ (read .ensures) below (s .pre .1) (i .3)
+          _ _ _ (omega arith) (told-number _ answer) (told-field _ answer 0) _ left (line .ensures),
     )
 
 same-length : tie.Need-same-length Inv-loop μ-loop
@@ -106,11 +127,12 @@ offer-all-spec =
     arrival-requires
     number-of-requires
     offer-sound-requires
+    tell-offered-requires
     add-put-offer
     add-put-offer-2
     cast-put-offer
-    offer-number-requires
-    serial-given-requires
+    array-read-put-offer
+    array-read-put-offer-2
     put-offer-requires
     add-i
     loop-less

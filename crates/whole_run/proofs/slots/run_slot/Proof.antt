@@ -2,6 +2,7 @@
 use native.Mathlib.Omega.{arith}
 use Rattle.words.specs.Contents.{contents}
 use Rattle.words.proofs.Counts.{sound-fitting}
+use Rattle.answers.proofs.Tells.{told-number}
 use Rattle.whole_run.proofs.SlotRun.{due-few, offers-room, step-room, slot-runs}
 use borrow.Author.Needs.{needs}
 use Rattle.whole_run.proofs.slots.run_slot.Statement.{statement}
@@ -20,8 +21,14 @@ offer-all-requires c κs =
     let p = s .pre .0 in
     let stretch = c .before .before .stretch in
     let counter = c .before .before .before .counter in
-    let few = due-few (a .numbers .now) (a .table .now) (contents (a .ws .now)) (a .passed) (p .1) (p .2) (stretch .result .now) (counter .result) (stretch .ensures) (counter .ensures) in
-    ((p .0, omega (arith, few)), offers-room (a .numbers .now) (a .table .now) (contents (a .ws .now)) (a .passed) (p .1) (p .2) (stretch .result .now) (counter .result) (stretch .ensures) (counter .ensures) (a .out .now) (a .start) (s .pre .1))
+    let few =
+    due-few (a .numbers .now) (a .table .now) (contents (a .ws .now)) (a .passed) (p .1) (p .2) (stretch .result .now) (counter .result)
+    (stretch .ensures) (counter .ensures) in
+    let room =
+    offers-room (a .numbers .now) (a .table .now) (contents (a .ws .now)) (a .passed) (p .1) (p .2) (stretch .result .now) (counter .result)
+    (stretch .ensures) (counter .ensures)
+    (a .out .now) (a .start) (s .pre .1) in
+    ((p .0, omega (arith, few)), room)
 
 step-sound-requires : tie.Need-step-sound-requires
 step-sound-requires c κs = search needs
@@ -33,20 +40,31 @@ print-stepped-requires c κs =
     let p = s .pre .0 in
     let stretch = c .before .before .before .before .before .before .before .before .before .before .before .before .stretch in
     let counter = c .before .before .before .before .before .before .before .before .before .before .before .before .before .counter in
-    (p .3, step-room (a .numbers .now) (a .table .now) (contents (a .ws .now)) (a .passed) (p .1) (p .2) (stretch .result .now) (counter .result) (stretch .ensures) (counter .ensures) (a .out .now) (a .start) (s .pre .1) (c .before .before .before .before .before .before .before .before .before .offer-all .ensures) (c .before .before .before .step-sound .result) (c .before .before .before .step-sound .ensures .0))
+    let offers = c .before .before .before .before .before .before .before .before .before .offer-all in
+    let step = c .before .before .before .step-sound in
+    let room =
+    step-room (a .numbers .now) (a .table .now) (contents (a .ws .now)) (a .passed) (p .1) (p .2) (stretch .result .now) (counter .result)
+    (stretch .ensures) (counter .ensures)
+    (a .out .now) (a .start) (s .pre .1) (offers .ensures) (step .result) (step .ensures .0) in
+    (p .3, room)
 
-add-t24 : tie.Need-add-t24
-add-t24 c =
-    let s = c .before .before .before .before .before .before .before .before .before .before .before .before .before .before .before .before .before .before .before .before .before .before in
+tell-stepped-requires : tie.Need-tell-stepped-requires
+tell-stepped-requires c κs = search needs
+
+add-t26 : tie.Need-add-t26
+add-t26 c =
+    let s = c .before .before .before .before .before .before .before .before .before .before .before .before .before .before .before .before .before .before .before .before .before .before .before in
     let a = s .args in
     let p = s .pre .0 in
-    let stretch = c .before .before .before .before .before .before .before .before .before .before .before .before .before .before .before .stretch in
-    let counter = c .before .before .before .before .before .before .before .before .before .before .before .before .before .before .before .before .counter in
-    let few = due-few (a .numbers .now) (a .table .now) (contents (a .ws .now)) (a .passed) (p .1) (p .2) (stretch .result .now) (counter .result) (stretch .ensures) (counter .ensures) in
+    let stretch = c .before .before .before .before .before .before .before .before .before .before .before .before .before .before .before .before .stretch in
+    let counter = c .before .before .before .before .before .before .before .before .before .before .before .before .before .before .before .before .before .counter in
+    let few =
+    due-few (a .numbers .now) (a .table .now) (contents (a .ws .now)) (a .passed) (p .1) (p .2) (stretch .result .now) (counter .result)
+    (stretch .ensures) (counter .ensures) in
     omega (arith, few)
 
-step-number-requires : tie.Need-step-number-requires
-step-number-requires c κs = search needs
+array-read-t29 : tie.Need-array-read-t29
+array-read-t29 c = search needs
 
 departed-by-requires : tie.Need-departed-by-requires
 departed-by-requires c κs = search needs
@@ -64,9 +82,13 @@ returns c =
     let p = s .pre .0 in
     let stretch = c .before .before .before .before .before .before .before .before .before .before .before .before .before .before .before .before .before .stretch in
     let counter = c .before .before .before .before .before .before .before .before .before .before .before .before .before .before .before .before .before .before .counter in
+    let offers = c .before .before .before .before .before .before .before .before .before .before .before .before .before .before .offer-all in
     let step = c .before .before .before .before .before .before .before .before .step-sound in
-    slot-runs (a .numbers .now) (a .table .now) (contents (a .ws .now)) (a .passed) (p .1) (p .2) (stretch .result .now) (counter .result) (stretch .ensures) (counter .ensures) (a .out .now) (a .start) (s .pre .1) (c .before .before .before .before .before .before .before .before .before .before .before .before .before .before .offer-all .ensures) (step .result) (step .ensures .0) (c .before .step-number .result) (c .departed-by .result)
-    (step .ensures .1) (c .before .before .before .before .print-stepped .ensures) (c .before .step-number .ensures) (c .departed-by .ensures)
+    let told = c .before .tell-stepped in
+    slot-runs (a .numbers .now) (a .table .now) (contents (a .ws .now)) (a .passed) (p .1) (p .2) (stretch .result .now) (counter .result)
+    (stretch .ensures) (counter .ensures)
+    (a .out .now) (a .start) (s .pre .1) (offers .ensures) (step .result) (step .ensures .0) _ (c .departed-by .result)
+    (step .ensures .1) (c .before .before .before .before .print-stepped .ensures) (told-number _ (told .ensures)) (c .departed-by .ensures)
 
 pub run-slot-spec : {M : Type 1} → statement M
 run-slot-spec =
@@ -77,8 +99,9 @@ run-slot-spec =
     offer-all-requires
     step-sound-requires
     print-stepped-requires
-    add-t24
-    step-number-requires
+    tell-stepped-requires
+    add-t26
+    array-read-t29
     departed-by-requires
     same-length
     same-length-2

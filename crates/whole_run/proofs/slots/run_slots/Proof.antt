@@ -3,7 +3,7 @@ use mathlib.Core.Path.{_≡_, refl, sym, _∙_}
 use native.Mathlib.Omega.{arith}
 use lib.ListN.{length}
 use borrow.Author.Tests.{not-true, not-false}
-use Rattle.meaning.proofs.SlotsEnough.{potential}
+use Rattle.meaning.specs.Rest.{potential}
 use Rattle.words.specs.Contents.{contents}
 use Rattle.words.proofs.Counts.{sound-fitting}
 use Rattle.whole_run.specs.Parts.{arrivalsPlaced}
