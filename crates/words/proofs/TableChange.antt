@@ -57,7 +57,7 @@ module _ (ws after : List ℕ) (from to : ℕ) (k : Fitting ws) (o : Only ws aft
   pub far : to ≤ lengthsAt → (i : ℕ) → lengthsAt ≤ i → word after i ≡ word ws i
   far t i h = o .kept i (λ p q. omega arith)
 
-  -- Where D and the counter stay too, so do the queues,
+  -- Where D and the counter stay too, so do the queues.
   pub queues-stay : rowCountAt ≤ from → to ≤ lengthsAt → word after counterAt ≡ word ws counterAt → queuesAt after ≡ contents ws .queues
   unfolding contents
   queues-stay f t c =
