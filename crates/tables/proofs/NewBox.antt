@@ -1,18 +1,14 @@
--- The words of a new box: the settings, then zeros. A new box is sound.
+-- The words of a new box: the settings, then zeros.
 use Prim.Native.Nat.{ℕ, zero, suc, _+_, _*_, _-_, _≤_, _<_}
 use mathlib.Core.Path.{_≡_, refl, sym, ap, _∙_}
-use mathlib.Core.Bool.{true}
 use mathlib.Core.List.{List, [], _∷_, _++_, map, flatten, append-assoc, append-nil}
 use native.Mathlib.Omega.{arith}
 use lib.ListN.{length, getD, take, drop, set, replicate, length-append, length-replicate, replicate-append-replicate}
 use lib.Seq.{drop-cons, set-at, drop-drop, drop-append-le}
 use Rattle.laws.specs.Series.{series, series-same, append-same}
-use Rattle.meaning.specs.Numbers.{Settings, largestFactor, risingAbove, settingsAllowed}
+use Rattle.meaning.specs.Numbers.{Settings, largestFactor}
 use Rattle.meaning.specs.Queues.{emptyQueues}
-use Rattle.laws.specs.Tests.{every}
 use Rattle.meaning.specs.declared.Packet.{Packet}
-use Rattle.meaning.specs.Box.{Box, connections, waiting, packets, onLink, packetKept, inTheirQueues, serialsRise, linkKept, allowancesKept, sound}
-use Rattle.meaning.proofs.Facts.{sound-test}
 use Rattle.meaning.specs.Calls.{newBox}
 use Rattle.words.specs.Places.{tagOf, intervalAt, cycleAt, classesAt, factorsAt, rowCountAt, packetsAt}
 use Rattle.words.specs.Contents.{padded, packetWords, linkWords, turnsOf, byPlace, laid, tables, image, put}
@@ -142,43 +138,3 @@ opening-writes D M fs ws l h e =
       length-append fs (replicate (packetsAt - factorsAt - length fs) 0),
       length-replicate {A = ℕ} (packetsAt - factorsAt - length fs) 0,
     ) (omega arith)
-
--- Empty queues have no packet.
-no-packets : (n : ℕ) → flatten (replicate {A = List Packet} n []) ≡ []
-unfolding flatten
-no-packets zero = refl
-no-packets (suc n) = no-packets n
-
--- In empty queues every packet is where its rank puts it.
-in-no-queue : (box : Box) (tag n : ℕ) → inTheirQueues box tag (replicate n []) ≡ true
-unfolding inTheirQueues every
-in-no-queue box tag zero = refl
-in-no-queue box tag (suc n) = in-no-queue box (suc tag) n
-
--- In empty queues the serials rise.
-none-rise : (n : ℕ) → every (λ q. risingAbove 0 (map (λ p. p .serial) q)) (replicate {A = List Packet} n []) ≡ true
-unfolding every risingAbove
-none-rise zero = refl
-none-rise (suc n) = none-rise n
-
--- "A new box is sound"
-pub new-box-sound : (opening : Settings) → settingsAllowed opening ≡ true → sound (newBox opening) ≡ true
-unfolding newBox emptyQueues connections waiting packets onLink serialsRise linkKept allowancesKept every
-new-box-sound opening e =
-    (let n = suc (largestFactor opening) in
-    let box = newBox opening in
-    let z : length (waiting box) ≡ 0 = ap length (no-packets n) in
-    sound-test box (record {
-      settings-allowed = e;
-      connections-most = omega arith;
-      connections-allowed = refl;
-      waiting-most = omega arith;
-      counter-most = omega arith;
-      queue-count = length-replicate {A = List Packet} n [];
-      in-their-queues = in-no-queue box 0 n;
-      serials-rise = none-rise n;
-      packets-kept = ap (λ l. every (packetKept box) (l ++ [])) (no-packets n);
-      link-kept = refl;
-      count-most = omega arith;
-      allowances-kept = refl;
-    }))

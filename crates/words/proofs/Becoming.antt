@@ -2,17 +2,15 @@
 -- sound.
 use Prim.Native.Nat.{ℕ, _+_, _*_, _≤_}
 use mathlib.Core.Path.{_≡_, ap, _∙_}
-use mathlib.Core.Bool.{true}
 use mathlib.Core.List.{List}
 use native.Mathlib.Omega.{arith}
 use lib.ListN.{length}
-use Rattle.meaning.specs.Box.{Box, waiting, sound}
+use Rattle.meaning.specs.Box.{Box, waiting}
 use Rattle.words.specs.Places.{lengthsBelow, packetsAt}
 use Rattle.words.specs.Contents.{put}
-use Rattle.words.specs.Sound.{soundWords}
 use Rattle.words.specs.Changes.{Become}
 use Rattle.words.proofs.PutContents.{put-from}
-use Rattle.words.proofs.Counts.{waiting-count, sound-put}
+use Rattle.words.proofs.Counts.{waiting-count}
 use Rattle.words.proofs.Same.{drop-same}
 
 -- Words that become those of a box are the box put into them.
@@ -33,8 +31,3 @@ become-then ws mid after first second a b h =
       same-length = b .same-length ∙ a .same-length;
       beyond = λ i l. b .beyond i l ∙ a .beyond i (omega arith);
     })
-
--- Words that become those of a sound box are sound words.
-pub become-sound : (ws after : List ℕ) (box : Box) → Become ws after box → sound box ≡ true → soundWords after ≡ true
-become-sound ws after box b e =
-    ap soundWords (become-put ws after box b) ∙ sound-put box ws e (omega (arith, b .fitting .enough, b .same-length))

@@ -1,15 +1,12 @@
 -- What a caller reads of the contents, as the words that the inner functions ask about.
 use Prim.Native.Nat.{ℕ}
-use mathlib.Core.Path.{_≡_, refl, sym}
+use mathlib.Core.Path.{_≡_, refl}
 use mathlib.Core.List.{List}
 use lib.ListN.{length}
 use Rattle.meaning.specs.Numbers.{classCount}
-use Rattle.meaning.specs.Box.{waiting}
-use Rattle.words.specs.Places.{word, lengthsBelow, intervalAt, cycleAt, classesAt, rowCountAt, counterAt, acceptedAt}
+use Rattle.words.specs.Places.{word, intervalAt, cycleAt, classesAt, rowCountAt, counterAt, acceptedAt}
 use Rattle.words.specs.Contents.{contents, settingsAt}
-use Rattle.words.specs.Sound.{Fitting}
 use Rattle.words.proofs.PutContents.{class-count, row-count}
-use Rattle.words.proofs.Counts.{waiting-count}
 
 -- The rotation interval D is the word at its place.
 pub interval-word : (ws : List ℕ) → contents ws .settings .interval ≡ word ws intervalAt
@@ -40,7 +37,3 @@ counter-word ws = refl
 pub accepted-word : (ws : List ℕ) → contents ws .accepted ≡ word ws acceptedAt
 unfolding contents
 accepted-word ws = refl
-
--- The waiting packets are as many as the lengths at all places sum to.
-pub waiting-word : (ws : List ℕ) → Fitting ws → length (waiting (contents ws)) ≡ lengthsBelow ws 64
-waiting-word ws k = sym (waiting-count ws (k .untagged) (k .largest))
