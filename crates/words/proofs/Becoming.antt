@@ -1,5 +1,4 @@
--- Words that become those of a box: they are the box put into them, one change after another is one change, and a sound box makes them
--- sound.
+-- Words that become those of a box: they are the box put into them, and one change after another is one change.
 use Prim.Native.Nat.{ℕ, _+_, _*_, _≤_}
 use mathlib.Core.Path.{_≡_, ap, _∙_}
 use mathlib.Core.List.{List}
