@@ -62,7 +62,12 @@ means-kept c at a v (inr u) =
 pub means-later : (c : Connection) (at later : ℕ) (a : Allowance) (v : ℕ) → at ≤ later → Means c at a v → Means c later a v
 means-later c at later a v h (inl f) = inl f
 means-later c at later a v h (inr u) =
-    inr (record { credit-most = u .credit-most; next-least = u .next-least; next-most = (let x = u .next-most in omega arith); number-is = u .number-is })
+    inr (record {
+      credit-most = u .credit-most;
+      next-least = u .next-least;
+      next-most = (let x = u .next-most in omega arith);
+      number-is = u .number-is;
+    })
 
 -- A fresh allowance stands for 0.
 pub full-means : (c : Connection) (at : ℕ) → Means c at (full c) 0
@@ -129,7 +134,8 @@ refill c at a v h (inl f) =
     let r = f .credit-is in
     let n = f .number-is in
     all (refilled-all c at a (omega arith)) (omega arith)
-refill c at a v h (inr u) = ⊎-elim (λ t. filled (leb-true _ _ t)) (λ f. fewer (leb-false _ _ f)) (bool-cases (leb (c .burst) (a .credit + cameBack c a at)))
+refill c at a v h (inr u) =
+    ⊎-elim (λ t. filled (leb-true _ _ t)) (λ f. fewer (leb-false _ _ f)) (bool-cases (leb (c .burst) (a .credit + cameBack c a at)))
   where
     b : Back c at a
     b = back c at a h
@@ -151,10 +157,12 @@ refill c at a v h (inr u) = ⊎-elim (λ t. filled (leb-true _ _ t)) (λ f. fewe
         let m = u .next-most in
         let g = b .ahead in
         let k = mul-le-mul-right (c .period) l in
-        let kc : suc (refilled c a at .credit) * c .period ≡ suc (a .credit + cameBack c a at) * c .period = ap (λ x. suc x * c .period) ec in
+        let kc : suc (refilled c a at .credit) * c .period ≡ suc (a .credit + cameBack c a at) * c .period =
+        ap (λ x. suc x * c .period) ec in
         let top : a .next + cameBack c a at * c .period ≤ at + c .period =
         ⊎-elim (λ (x : 1 ≤ cameBack c a at). b .reached x)
-        (λ (x : cameBack c a at ≡ 0). let y : cameBack c a at * c .period ≡ 0 = ap (λ n. n * c .period) x ∙ native.Mathlib.Nat.zero-mul (c .period) in omega arith)
+        (λ (x : cameBack c a at ≡ 0). let y : cameBack c a at * c .period ≡ 0 = ap (λ n. n * c .period) x ∙
+        native.Mathlib.Nat.zero-mul (c .period) in omega arith)
         (one-or-none (cameBack c a at)) in
         some (omega arith) (omega arith) (omega arith) (omega arith) (omega arith)
       where
@@ -178,12 +186,14 @@ conforms-exactly c at a v h k m = go (refill c at a v h m)
       λ y. le-leb 1 (refilled c a at .credit) (at-least (refilled c a at .credit) n y),
     )
       where
-        at-least : (r : ℕ) → v + suc r * c .period ≡ refilled c a at .next + c .burst * c .period → v + c .period ≤ at + c .burst * c .period → 1 ≤ r
+        at-least : (r : ℕ) → v + suc r * c .period ≡ refilled c a at .next + c .burst * c .period
+            → v + c .period ≤ at + c .burst * c .period → 1 ≤ r
         at-least zero e y = omega arith
         at-least (suc r) e y = omega arith
 
 -- An accepted packet makes the number max(v, now) + T.
-pub charged-means : (c : Connection) (at : ℕ) (a : Allowance) (v : ℕ) → 1 ≤ c .period → 1 ≤ c .burst → Means c at a v → conforms c a at ≡ true
+pub charged-means : (c : Connection) (at : ℕ) (a : Allowance) (v : ℕ) → 1 ≤ c .period → 1 ≤ c .burst → Means c at a v
+    → conforms c a at ≡ true
     → Means c at (charged c a at) (max v at + c .period)
 unfolding charged conforms full
 charged-means c at a v h k m y = go (refill c at a v h m)
@@ -196,15 +206,28 @@ charged-means c at a v h k m y = go (refill c at a v h m)
         let r : refilled c a at .credit ≡ c .burst = ap (λ x. x .credit) e in
         let b = less-one (c .burst) k in
         rw (eq-eqb (refilled c a at .credit) (c .burst) r)
-        (inr (record { credit-most = omega arith; next-least = omega arith; next-most = omega arith; number-is = omega (arith, max-eq-right l) }))
+        (inr (record {
+          credit-most = omega arith;
+          next-least = omega arith;
+          next-most = omega arith;
+          number-is = omega
+              (arith, max-eq-right l);
+        }))
     go (some l g t w n) =
         let o : 1 ≤ refilled c a at .credit = leb-true 1 (refilled c a at .credit) y in
         let b = less-one (refilled c a at .credit) o in
         rw (ne-eqb (refilled c a at .credit) (c .burst) (λ q. omega arith))
-        (inr (record { credit-most = omega arith; next-least = omega arith; next-most = omega arith; number-is = omega (arith, max-eq-left w) }))
+        (inr (record {
+          credit-most = omega arith;
+          next-least = omega arith;
+          next-most = omega arith;
+          number-is = omega
+              (arith, max-eq-left w);
+        }))
 
 -- The range of an allowance is kept by a charge, and as the slots pass.
-pub charged-kept : (c : Connection) (at : ℕ) (a : Allowance) → 1 ≤ c .period → 1 ≤ c .burst → allowanceKept c at a ≡ true → conforms c a at ≡ true
+pub charged-kept : (c : Connection) (at : ℕ) (a : Allowance) → 1 ≤ c .period → 1 ≤ c .burst → allowanceKept c at a ≡ true
+    → conforms c a at ≡ true
     → allowanceKept c at (charged c a at) ≡ true
 charged-kept c at a h k e y =
     let m = kept-means c at a e in

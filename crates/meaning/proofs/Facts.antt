@@ -7,9 +7,12 @@ use lib.Dec.{leb, eqb}
 use borrow.Author.Tests.{leb-true, le-leb, eqb-true, eq-eqb}
 use Rattle.laws.specs.Tests.{within, every, within-facts, within-test}
 use Rattle.meaning.specs.declared.Connection.{Connection}
-use Rattle.meaning.specs.Numbers.{Settings, classCount, largestFactor, largestBound, risingAbove, intervalAllowed, cycleAllowed, classesAllowed, largestBoundAllowed, settingsAllowed, classAllowed, longestAllowed, burstAllowed, periodAllowed, connectionAllowed, mostConnections, mostWaiting, lastSlot}
+use Rattle.meaning.specs.Numbers.{Settings, classCount, largestFactor, largestBound, risingAbove, intervalAllowed, cycleAllowed}
+use Rattle.meaning.specs.Numbers.{classesAllowed, largestBoundAllowed, settingsAllowed, classAllowed, longestAllowed, burstAllowed}
+use Rattle.meaning.specs.Numbers.{periodAllowed, connectionAllowed, mostConnections, mostWaiting, lastSlot}
 use Rattle.meaning.specs.declared.Packet.{Packet}
-use Rattle.meaning.specs.Box.{Box, connections, connection, waiting, packets, stands, numbersKept, inTheirQueues, queuesKept, serialsRise, packetKept, linkKept, countKept, allowancesKept, sound}
+use Rattle.meaning.specs.Box.{Box, connections, connection, waiting, packets, stands, numbersKept, inTheirQueues, queuesKept}
+use Rattle.meaning.specs.Box.{serialsRise, packetKept, linkKept, countKept, allowancesKept, sound}
 
 -- The rows of the table for a box.
 pub record SettingsFacts (box : Settings) : Type 0 where
@@ -121,7 +124,8 @@ packet-test box p f =
     let u = within 1 (p .units) (connection box (p .connection) .longest) in
     and-eq-true-iff (s && n && u) (leb (p .arrival) (box .counter)) .1 (
       and-eq-true-iff (s && n) u .1 (
-        and-eq-true-iff s n .1 (within-test 1 _ _ (f .serial-least) (f .serial-most), within-test 1 _ _ (f .connection-least) (f .connection-most)),
+        and-eq-true-iff s n .1
+            (within-test 1 _ _ (f .serial-least) (f .serial-most), within-test 1 _ _ (f .connection-least) (f .connection-most)),
         within-test 1 _ _ (f .units-least) (f .units-most),
       ),
       le-leb _ _ (f .arrival-most),
@@ -164,7 +168,8 @@ sound-facts box e =
     let i = and-eq-true-iff (s && k && m) w .0 (h .0) in
     let j = and-eq-true-iff (s && k) m .0 (i .0) in
     let o = and-eq-true-iff s k .0 (j .0) in
-    let t = and-eq-true-iff (eqb (length (box .queues)) (suc (largestFactor (box .settings)))) (inTheirQueues box 0 (box .queues)) .0 (g .1) in
+    let t = and-eq-true-iff (eqb (length (box .queues)) (suc (largestFactor (box .settings)))) (inTheirQueues box 0 (box .queues)) .0
+    (g .1) in
     record {
       settings-allowed = o .0;
       connections-most = leb-true _ _ (o .1);

@@ -16,7 +16,8 @@ use Rattle.meaning.specs.Admission.{rateHolds, finiteSearch}
 use Rattle.meaning.specs.Queues.{emptyQueues, rank}
 use Rattle.meaning.specs.declared.Packet.{Packet}
 use Rattle.meaning.specs.declared.Standing.{Standing}
-use Rattle.meaning.specs.Box.{Box, connections, connection, noConnection, waiting, onLink, packets, rankIn, inTheirQueues, serialsRise, packetKept, linkKept, allowancesKept, sound}
+use Rattle.meaning.specs.Box.{Box, connections, connection, noConnection, waiting, onLink, packets, rankIn, inTheirQueues}
+use Rattle.meaning.specs.Box.{serialsRise, packetKept, linkKept, allowancesKept, sound}
 use Rattle.meaning.specs.declared.Refusal.{Refusal}
 use Rattle.meaning.specs.declared.Admitted.{Admitted}
 use Rattle.meaning.specs.Calls.{newBox, withNewcomer, searchAnswer, admissionAnswer, withStanding, afterAdmission}
@@ -34,7 +35,8 @@ in-their-queues-tagged box k [] = refl
 in-their-queues-tagged box k (q ∷ qs) = ap (λ b. every (inPlace box k) q && b) (in-their-queues-tagged box (suc k) qs)
 
 -- Whoever has the same settings and the same connection ranks a packet the same.
-pub rank-same : (box other : Box) (p : Packet) → other .settings ≡ box .settings → connection other (p .connection) ≡ connection box (p .connection)
+pub rank-same : (box other : Box) (p : Packet) → other .settings ≡ box .settings
+    → connection other (p .connection) ≡ connection box (p .connection)
     → rankIn other p ≡ rankIn box p
 unfolding rankIn
 rank-same box other p e f = cc
@@ -90,7 +92,8 @@ module _ (box : Box) (c : Connection) (facts : SoundFacts box) (allowed : connec
     unfolding withStanding
     packet-stays p m =
         let f = packet-facts box p (every-at (packetKept box) (packets box) (facts .packets-kept) m) in
-        let e = connection-stays box (record { asked = c; allowance = full c }) (p .connection) (f .connection-least) (f .connection-most) in
+        let e = connection-stays box (record { asked = c; allowance = full c }) (p .connection) (f .connection-least)
+        (f .connection-most) in
         let l = f .connection-most in
         let o = one-more in
         record {
@@ -103,11 +106,14 @@ module _ (box : Box) (c : Connection) (facts : SoundFacts box) (allowed : connec
           arrival-most = f .arrival-most;
         }
 
-    place-stays : (t : ℕ) (p : Packet) → List·Memᴰ p (flatten (box .queues)) → inPlace box (0 + t) p ≡ true → inPlace (taking box c) t p ≡ true
+    place-stays : (t : ℕ) (p : Packet) → List·Memᴰ p (flatten (box .queues)) → inPlace box (0 + t) p ≡ true
+        → inPlace (taking box c) t p ≡ true
     unfolding withStanding waiting packets
     place-stays t p m h =
-        let f = packet-facts box p (every-at (packetKept box) (packets box) (facts .packets-kept) (Memᴰ·append-left (onLink (box .link)) m)) in
-        let e = connection-stays box (record { asked = c; allowance = full c }) (p .connection) (f .connection-least) (f .connection-most) in
+        let f = packet-facts box p
+        (every-at (packetKept box) (packets box) (facts .packets-kept) (Memᴰ·append-left (onLink (box .link)) m)) in
+        let e = connection-stays box (record { asked = c; allowance = full c }) (p .connection) (f .connection-least)
+        (f .connection-most) in
         let r : rankIn (taking box c) p ≡ rankIn box p = rank-same box (taking box c) p refl e in
         let z : 0 + t ≡ t = omega arith in
         rw r (rw z at h)
@@ -135,7 +141,8 @@ module _ (box : Box) (c : Connection) (facts : SoundFacts box) (allowed : connec
           link-kept = facts .link-kept;
           count-most = facts .count-most;
           allowances-kept =
-              every-append (λ s. allowanceKept (s .asked) (box .counter) (s .allowance)) (box .standing) (record { asked = c; allowance = full c } ∷ [])
+              every-append (λ s. allowanceKept (s .asked) (box .counter) (s .allowance)) (box .standing)
+              (record { asked = c; allowance = full c } ∷ [])
               (facts .allowances-kept)
               (and-eq-true-iff (allowanceKept c (box .counter) (full c)) true .1 (full-kept c (box .counter), refl));
         })
@@ -145,10 +152,12 @@ pub admission-keeps-sound : (box : Box) (c : Connection) → sound box ≡ true 
 unfolding admissionAnswer afterAdmission searchAnswer
 admission-keeps-sound box c e =
     rw e
-    (go (connectionAllowed (box .settings) c) refl (leb mostConnections (length (box .standing))) refl (rateHolds (box .settings) (withNewcomer box c))
+    (go (connectionAllowed (box .settings) c) refl (leb mostConnections (length (box .standing))) refl
+    (rateHolds (box .settings) (withNewcomer box c))
     (finiteSearch (box .settings) (withNewcomer box c)))
   where
-    go : (allowed : Bool) → connectionAllowed (box .settings) c ≡ allowed → (no-room : Bool) → leb mostConnections (length (box .standing)) ≡ no-room
+    go : (allowed : Bool) → connectionAllowed (box .settings) c ≡ allowed → (no-room : Bool)
+        → leb mostConnections (length (box .standing)) ≡ no-room
         → (rate-holds : Bool) (found : Search)
         → sound
         (afterAdmission box c

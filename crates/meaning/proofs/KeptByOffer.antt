@@ -2,7 +2,8 @@
 use Prim.Native.Nat.{ℕ, zero, suc, _+_, _-_, _/_, _≤_, _<_}
 use mathlib.Core.Path.{_≡_, refl, sym, ap, _∙_, subst}
 use mathlib.Core.Bool.{Bool, true, false, cond, not, _&&_, and-eq-true-iff}
-use mathlib.Core.List.{List, [], _∷_, _++_, map, flatten, map-append, List·Memᴰ, List·Memᴰ·head, List·Memᴰ·tail, List·Memᴰ·append-cases, List·Memᴰ·cases-cons, List·Memᴰ·not-nil, List·Memᴰ·eq-of-singleton, Memᴰ·append-left, Memᴰ·append-right}
+use mathlib.Core.List.{List, [], _∷_, _++_, map, flatten, map-append, List·Memᴰ, List·Memᴰ·head, List·Memᴰ·tail, List·Memᴰ·append-cases}
+use mathlib.Core.List.{List·Memᴰ·cases-cons, List·Memᴰ·not-nil, List·Memᴰ·eq-of-singleton, Memᴰ·append-left, Memᴰ·append-right}
 use mathlib.Core.Logic.{_⊎_, inl, inr, ⊎-elim}
 use native.Mathlib.Omega.{arith}
 use lib.ListN.{length, getD, set, length-append, length-map, length-set, List·getD-map}
@@ -12,16 +13,19 @@ use borrow.Author.Tests.{leb-false, lt-ltb, eq-eqb, ltb-true}
 use Rattle.laws.specs.Tests.{within, within-facts, every, every-at, every-all, every-set}
 use Rattle.laws.specs.Lists.{getD-member, member-flatten}
 use Rattle.meaning.specs.declared.Connection.{Connection}
-use Rattle.meaning.specs.Numbers.{Settings, classCount, factor, largestFactor, settingsAllowed, connectionAllowed, risingAbove, mostWaiting}
+use Rattle.meaning.specs.Numbers.{Settings, classCount, factor, largestFactor, settingsAllowed, connectionAllowed, risingAbove}
+use Rattle.meaning.specs.Numbers.{mostWaiting}
 use Rattle.meaning.specs.Envelope.{full, conforms, charged, allowanceKept}
 use Rattle.meaning.specs.Queues.{rank, joinTail}
 use Rattle.meaning.specs.declared.Packet.{Packet}
 use Rattle.meaning.specs.declared.Standing.{Standing}
-use Rattle.meaning.specs.Box.{Box, connections, connection, noConnection, stands, waiting, onLink, packets, rankIn, inTheirQueues, serialsRise, packetKept, allowancesKept, sound}
+use Rattle.meaning.specs.Box.{Box, connections, connection, noConnection, stands, waiting, onLink, packets, rankIn, inTheirQueues}
+use Rattle.meaning.specs.Box.{serialsRise, packetKept, allowancesKept, sound}
 use Rattle.meaning.specs.declared.Refusal.{Refusal}
 use Rattle.meaning.specs.declared.Offered.{Offered}
 use Rattle.meaning.specs.Calls.{allowance, chargedAt, joined, offerAnswer, afterOffer}
-use Rattle.meaning.proofs.Facts.{SoundFacts, SettingsFacts, ConnectionFacts, PacketFacts, sound-facts, sound-test, settings-facts, connection-facts, packet-facts, packet-test}
+use Rattle.meaning.proofs.Facts.{SoundFacts, SettingsFacts, ConnectionFacts, PacketFacts, sound-facts, sound-test, settings-facts}
+use Rattle.meaning.proofs.Facts.{connection-facts, packet-facts, packet-test}
 use Rattle.meaning.proofs.Allowances.{charged-kept}
 use Rattle.meaning.proofs.QueueLaws.{joined-member, joined-length, joined-count, tagged, tagged-join, tagged-weaken}
 use Rattle.meaning.proofs.KeptByAdmission.{inPlace, in-their-queues-tagged, rank-same}
@@ -60,7 +64,8 @@ unfolding factor largestFactor classCount
 factor-within box p f h k = rising-most 0 (box .factors) (p - 1) (omega arith) (f .factors-rise)
 
 -- Serials stay rising when a higher one joins the end.
-rising-last : (low : ℕ) (ns : List ℕ) (n : ℕ) → risingAbove low ns ≡ true → low < n → ((x : ℕ) → List·Memᴰ x ns → x < n) → risingAbove low (ns ++ (n ∷ [])) ≡ true
+rising-last : (low : ℕ) (ns : List ℕ) (n : ℕ) → risingAbove low ns ≡ true → low < n → ((x : ℕ) → List·Memᴰ x ns → x < n)
+    → risingAbove low (ns ++ (n ∷ [])) ≡ true
 unfolding risingAbove
 rising-last low [] n e h f = and-eq-true-iff (ltb low n) true .1 (lt-ltb low n h, refl)
 rising-last low (m ∷ ns) n e h f =
@@ -100,14 +105,19 @@ module _ (box : Box) (n : ℕ) (facts : SoundFacts box) (standing : stands box n
 
   pub row-asked : connection box n ≡ row .asked
   unfolding connection connections
-  row-asked = List·getD-map (λ (s : Standing). s .asked) (box .standing) (n - 1) (record { asked = noConnection; allowance = full noConnection })
+  row-asked =
+      List·getD-map (λ (s : Standing). s .asked) (box .standing) (n - 1) (record { asked = noConnection; allowance = full noConnection })
 
   pub row-allowance : allowance box n ≡ row .allowance
   unfolding allowance
-  row-allowance = List·getD-map (λ (s : Standing). s .allowance) (box .standing) (n - 1) (record { asked = noConnection; allowance = full noConnection })
+  row-allowance =
+      List·getD-map (λ (s : Standing). s .allowance) (box .standing) (n - 1)
+      (record { asked = noConnection; allowance = full noConnection })
 
   pub row-stands : List·Memᴰ row (box .standing)
-  row-stands = let k = number in getD-member (box .standing) (n - 1) (record { asked = noConnection; allowance = full noConnection }) (omega arith)
+  row-stands =
+      let k = number in
+      getD-member (box .standing) (n - 1) (record { asked = noConnection; allowance = full noConnection }) (omega arith)
 
   pub asked-allowed : ConnectionFacts (box .settings) (connection box n)
   unfolding connection connections
@@ -122,7 +132,8 @@ module _ (box : Box) (n : ℕ) (facts : SoundFacts box) (standing : stands box n
   unfolding allowancesKept
   allowance-kept =
       rw (row-asked, row-allowance)
-      (every-at (λ (s : Standing). allowanceKept (s .asked) (box .counter) (s .allowance)) (box .standing) (facts .allowances-kept) row-stands)
+      (every-at (λ (s : Standing). allowanceKept (s .asked) (box .counter) (s .allowance)) (box .standing) (facts .allowances-kept)
+      row-stands)
 
   abbrev pub tag : ℕ
   tag = factor (box .settings) (connection box n .class)
@@ -130,13 +141,15 @@ module _ (box : Box) (n : ℕ) (facts : SoundFacts box) (standing : stands box n
   pub tag-within : tag < length (box .queues)
   tag-within =
       let f = asked-allowed in
-      let l = factor-within (box .settings) (connection box n .class) (settings-facts (box .settings) (facts .settings-allowed)) (f .class-least) (f .class-most) in
+      let l = factor-within (box .settings) (connection box n .class) (settings-facts (box .settings) (facts .settings-allowed))
+      (f .class-least) (f .class-most) in
       let q = facts .queue-count in
       omega arith
 
 -- An accepted offer.
 module _ (box : Box) (n units : ℕ) (facts : SoundFacts box) (standing : stands box n ≡ true)
-    (permitted : within 1 units (connection box n .longest) ≡ true) (fit : conforms (connection box n) (allowance box n) (box .counter) ≡ true)
+    (permitted : within 1 units (connection box n .longest) ≡ true)
+    (fit : conforms (connection box n) (allowance box n) (box .counter) ≡ true)
     (room : length (waiting box) < mostWaiting)
   where
     abbrev packet : Packet
@@ -200,7 +213,8 @@ module _ (box : Box) (n units : ℕ) (facts : SoundFacts box) (standing : stands
     packet-after p m =
         ⊎-elim
         (λ (w : List·Memᴰ p (flatten (joined box packet))).
-        ⊎-elim (λ (e : p ≡ packet). rw e newcomer-kept) (λ o. packet-stays p (Memᴰ·append-left (onLink (box .link)) o)) (joined-member (tag box n facts standing) packet (box .queues) w))
+        ⊎-elim (λ (e : p ≡ packet). rw e newcomer-kept) (λ o. packet-stays p (Memᴰ·append-left (onLink (box .link)) o))
+        (joined-member (tag box n facts standing) packet (box .queues) w))
         (λ (l : List·Memᴰ p (onLink (box .link))). packet-stays p (Memᴰ·append-right (flatten (box .queues)) l))
         (List·Memᴰ·append-cases (flatten (joined box packet)) m)
 
@@ -213,7 +227,9 @@ module _ (box : Box) (n units : ℕ) (facts : SoundFacts box) (standing : stands
         (rising-last 0 (map (λ p. p .serial) q) (suc (box .accepted)) e (omega arith)
         (λ x k.
         let s = serial-of q k in
-        let f = packet-facts box (s .0) (every-at (packetKept box) (packets box) (facts .packets-kept) (Memᴰ·append-left (onLink (box .link)) (member-flatten (box .queues) m (s .1)))) in
+        let f = packet-facts box (s .0)
+        (every-at (packetKept box) (packets box) (facts .packets-kept)
+        (Memᴰ·append-left (onLink (box .link)) (member-flatten (box .queues) m (s .1)))) in
         let l = f .serial-most in
         let i = s .2 in
         omega arith)))
@@ -235,7 +251,8 @@ module _ (box : Box) (n units : ℕ) (facts : SoundFacts box) (standing : stands
         tagged-weaken (inPlace box) (inPlace after) 0 0 (box .queues)
         (λ t p m h. let z : 0 + t ≡ t = omega arith in rw (rank-same box after p refl (connection-stays (p .connection))) (rw z at h))
         (sym (in-their-queues-tagged box 0 (box .queues)) ∙ facts .in-their-queues) in
-        in-their-queues-tagged after 0 (joined box packet) ∙ tagged-join (inPlace after) (tag box n facts standing) 0 packet (box .queues) stays newcomer-placed
+        in-their-queues-tagged after 0 (joined box packet) ∙
+        tagged-join (inPlace after) (tag box n facts standing) 0 packet (box .queues) stays newcomer-placed
 
     accepted-sound : sound after ≡ true
     unfolding afterOffer joined waiting packets allowancesKept chargedAt
@@ -259,8 +276,10 @@ module _ (box : Box) (n units : ℕ) (facts : SoundFacts box) (standing : stands
           link-kept = facts .link-kept;
           count-most = (let x = length-append (flatten (box .queues)) (onLink (box .link)) in simp length-append (omega arith));
           allowances-kept =
-              every-set (λ (s : Standing). allowanceKept (s .asked) (box .counter) (s .allowance)) (box .standing) (n - 1) _ (facts .allowances-kept)
-              (charged-kept (connection box n) (box .counter) (allowance box n) (f .period-least) (f .burst-least) (allowance-kept box n facts standing) fit);
+              every-set (λ (s : Standing). allowanceKept (s .asked) (box .counter) (s .allowance)) (box .standing) (n - 1) _
+              (facts .allowances-kept)
+              (charged-kept (connection box n) (box .counter) (allowance box n) (f .period-least) (f .burst-least)
+              (allowance-kept box n facts standing) fit);
         })
 
 -- An offer keeps a sound box sound.
@@ -268,16 +287,19 @@ pub offer-keeps-sound : (box : Box) (n units : ℕ) → sound box ≡ true → s
 unfolding offerAnswer afterOffer
 offer-keeps-sound box n units e =
     rw e
-    (go (stands box n) refl (within 1 units (connection box n .longest)) refl (conforms (connection box n) (allowance box n) (box .counter)) refl
+    (go (stands box n) refl (within 1 units (connection box n .longest)) refl
+    (conforms (connection box n) (allowance box n) (box .counter)) refl
     (leb mostWaiting (length (waiting box))) refl)
   where
     go : (known : Bool) → stands box n ≡ known → (permitted : Bool) → within 1 units (connection box n .longest) ≡ permitted
-        → (fit : Bool) → conforms (connection box n) (allowance box n) (box .counter) ≡ fit → (no-room : Bool) → leb mostWaiting (length (waiting box)) ≡ no-room
+        → (fit : Bool) → conforms (connection box n) (allowance box n) (box .counter) ≡ fit → (no-room : Bool)
+        → leb mostWaiting (length (waiting box)) ≡ no-room
         → sound
         (afterOffer box n units
         (cond (not known) (Offered.Refused Refusal.NoConnection)
         (cond (not permitted) (Offered.Refused Refusal.WrongLength)
-        (cond (not fit) (Offered.Refused Refusal.NotFitting) (cond no-room (Offered.Refused Refusal.StoreFull) (Offered.Accepted (suc (box .accepted))))))))
+        (cond (not fit) (Offered.Refused Refusal.NotFitting)
+        (cond no-room (Offered.Refused Refusal.StoreFull) (Offered.Accepted (suc (box .accepted))))))))
         ≡ true
     go false a p b f c r d = e
     go true a false b f c r d = e

@@ -2,7 +2,8 @@
 use Prim.Native.Nat.{ℕ, zero, suc, _+_, _-_, _/_, _%_, _≤_, _<_}
 use mathlib.Core.Path.{_≡_, refl, sym, ap, _∙_, subst}
 use mathlib.Core.Bool.{Bool, true, false, cond, not, _&&_, and-eq-true-iff, true≢false}
-use mathlib.Core.List.{List, [], _∷_, _++_, map, flatten, List·Memᴰ, List·Memᴰ·head, List·Memᴰ·tail, List·Memᴰ·append-cases, List·Memᴰ·not-nil, List·Memᴰ·eq-of-singleton, Memᴰ·append-left, Memᴰ·append-right}
+use mathlib.Core.List.{List, [], _∷_, _++_, map, flatten, List·Memᴰ, List·Memᴰ·head, List·Memᴰ·tail, List·Memᴰ·append-cases}
+use mathlib.Core.List.{List·Memᴰ·not-nil, List·Memᴰ·eq-of-singleton, Memᴰ·append-left, Memᴰ·append-right}
 use mathlib.Core.Logic.{_⊎_, inl, inr, ⊎-elim}
 use mathlib.Core.Option.{Option, none, some}
 use native.Mathlib.Omega.{arith}
@@ -17,13 +18,16 @@ use Rattle.meaning.specs.Envelope.{allowanceKept}
 use Rattle.meaning.specs.Queues.{turnAt, turned, lowestHead, withoutLowestHead, tagZeroWaits}
 use Rattle.meaning.specs.declared.Packet.{Packet}
 use Rattle.meaning.specs.declared.Standing.{Standing}
-use Rattle.meaning.specs.Box.{Box, Link, free, carries, connections, connection, waiting, onLink, packets, rankIn, inTheirQueues, serialsRise, packetKept, linkKept, allowancesKept, sound}
+use Rattle.meaning.specs.Box.{Box, Link, free, carries, connections, connection, waiting, onLink, packets, rankIn, inTheirQueues}
+use Rattle.meaning.specs.Box.{serialsRise, packetKept, linkKept, allowancesKept, sound}
 use Rattle.meaning.specs.declared.Refusal.{Refusal}
 use Rattle.meaning.specs.declared.Stepped.{Stepped}
-use Rattle.meaning.specs.Step.{loaded, linkTaken, queuesTaken, sentAnswer, linkSent, turnDue, stepAnswer, queuesStepped, moved, afterStep}
+use Rattle.meaning.specs.Step.{loaded, linkTaken, queuesTaken, sentAnswer, linkSent, turnDue, stepAnswer, queuesStepped, moved}
+use Rattle.meaning.specs.Step.{afterStep}
 use Rattle.meaning.proofs.Facts.{SoundFacts, PacketFacts, sound-facts, sound-test, settings-facts, packet-facts, packet-test}
 use Rattle.meaning.proofs.Allowances.{kept-later}
-use Rattle.meaning.proofs.QueueLaws.{lowest-member, without-member, without-length, without-count, nothing-taken, turned-member, turned-length, turned-count, tagged, tagged-without, tagged-weaken, tagged-last}
+use Rattle.meaning.proofs.QueueLaws.{lowest-member, without-member, without-length, without-count, nothing-taken, turned-member}
+use Rattle.meaning.proofs.QueueLaws.{turned-length, turned-count, tagged, tagged-without, tagged-weaken, tagged-last}
 use Rattle.meaning.proofs.KeptByAdmission.{inPlace, in-their-queues-tagged, rank-same}
 use Rattle.meaning.proofs.TagsAndRanks.{turn-test}
 
@@ -100,7 +104,8 @@ module _ (box : Box) (facts : SoundFacts box) where
       }
 
   -- the link was free, and takes a packet
-  takes : (p : Packet) → box .link ≡ free → lowestHead (box .queues) ≡ some p → Taken box (carries p (p .units)) (withoutLowestHead (box .queues))
+  takes : (p : Packet) → box .link ≡ free → lowestHead (box .queues) ≡ some p
+      → Taken box (carries p (p .units)) (withoutLowestHead (box .queues))
   unfolding waiting packets onLink serialsRise
   takes p e h =
       let n : length (onLink (box .link)) ≡ 0 = ap (λ l. length (onLink l)) e in
@@ -115,14 +120,18 @@ module _ (box : Box) (facts : SoundFacts box) where
         fewer = omega arith;
         same-number = simp length-append (omega arith);
         carried = λ x k. mathlib.Core.List.Memᴰ·cast (List·Memᴰ·eq-of-singleton k) m;
-        left-within = λ x l g. let i : p ≡ x = cc in let j : p .units ≡ l = cc in (let u = f .units-least in omega arith, subst (λ y. l ≤ y .units) i (omega arith));
+        left-within =
+            λ x l g. let i : p ≡ x = cc in
+            let j : p .units ≡ l = cc in
+            (let u = f .units-least in omega arith, subst (λ y. l ≤ y .units) i (omega arith));
       }
 
   pub taken : Taken box (linkTaken (box .link) (box .queues)) (queuesTaken (box .link) (box .queues))
   unfolding linkTaken queuesTaken loaded
   taken = by-link (box .link) refl
     where
-      by-head : (o : Option Packet) → lowestHead (box .queues) ≡ o → box .link ≡ free → Taken box (loaded o) (withoutLowestHead (box .queues))
+      by-head : (o : Option Packet) → lowestHead (box .queues) ≡ o → box .link ≡ free
+          → Taken box (loaded o) (withoutLowestHead (box .queues))
       by-head none h e = idle e h
       by-head (some p) h e = takes p e h
 
@@ -170,12 +179,14 @@ moved-place box d t p e h =
 
 -- The turn puts each packet one tag lower.
 placed-turned : (box : Box) (qs : List (List Packet)) → tagZeroWaits qs ≡ false → tagged (inPlace box) 0 qs ≡ true
-    → suc (box .counter) / box .settings .interval ≡ 1 + box .counter / box .settings .interval → tagged (inPlace (moved box)) 0 (turned qs) ≡ true
+    → suc (box .counter) / box .settings .interval ≡ 1 + box .counter / box .settings .interval
+    → tagged (inPlace (moved box)) 0 (turned qs) ≡ true
 unfolding tagZeroWaits tagged turned
 placed-turned box [] z p q = refl
 placed-turned box ([] ∷ qs) z p q =
     let s : tagged (inPlace box) (1 + 0) qs ≡ true = and-eq-true-iff (every (inPlace box 0) []) (tagged (inPlace box) 1 qs) .0 p .1 in
-    tagged-last (inPlace (moved box)) 0 qs (tagged-weaken (inPlace box) (inPlace (moved box)) 1 0 qs (λ t x m h. moved-place box 1 t x q h) s)
+    tagged-last (inPlace (moved box)) 0 qs
+    (tagged-weaken (inPlace box) (inPlace (moved box)) 1 0 qs (λ t x m h. moved-place box 1 t x q h) s)
 placed-turned box ((x ∷ q) ∷ qs) z p e = absurd (true≢false z)
 
 rises-turned : (qs : List (List Packet)) → every rises qs ≡ true → every rises (turned qs) ≡ true
@@ -189,7 +200,8 @@ module _ (box : Box) (positive : 1 ≤ box .settings .interval) where
   stays : (qs : List (List Packet)) → turnDue box ≡ false → tagged (inPlace box) 0 qs ≡ true → every rises qs ≡ true → Queued box qs qs
   unfolding turnDue
   stays qs e p r =
-      let q = turn-not-due (box .settings .interval) (box .counter) positive (eqb-false _ _ (sym (turn-test (box .settings .interval) (box .counter)) ∙ e)) in
+      let q = turn-not-due (box .settings .interval) (box .counter) positive
+      (eqb-false _ _ (sym (turn-test (box .settings .interval) (box .counter)) ∙ e)) in
       record {
         count = refl;
         placed = tagged-weaken (inPlace box) (inPlace (moved box)) 0 0 qs (λ t x m h. moved-place box 0 t x (omega arith) h) p;
@@ -198,11 +210,13 @@ module _ (box : Box) (positive : 1 ≤ box .settings .interval) where
         same-length = refl;
       }
 
-  turns : (qs : List (List Packet)) → turnDue box ≡ true → tagZeroWaits qs ≡ false → tagged (inPlace box) 0 qs ≡ true → every rises qs ≡ true
+  turns : (qs : List (List Packet)) → turnDue box ≡ true → tagZeroWaits qs ≡ false → tagged (inPlace box) 0 qs ≡ true
+      → every rises qs ≡ true
       → Queued box qs (turned qs)
   unfolding turnDue
   turns qs e z p r =
-      let q = turn-due (box .settings .interval) (box .counter) positive (eqb-true _ _ (sym (turn-test (box .settings .interval) (box .counter)) ∙ e)) in
+      let q = turn-due (box .settings .interval) (box .counter) positive
+      (eqb-true _ _ (sym (turn-test (box .settings .interval) (box .counter)) ∙ e)) in
       record {
         count = turned-count qs;
         placed = placed-turned box qs z p (omega arith);
@@ -216,7 +230,8 @@ module _ (box : Box) (positive : 1 ≤ box .settings .interval) where
       → Queued box qs (cond (turnDue box) (turned qs) qs)
   queued qs e p r = go (turnDue box) refl (tagZeroWaits qs) refl e
     where
-      go : (due : Bool) → turnDue box ≡ due → (held : Bool) → tagZeroWaits qs ≡ held → (due && held) ≡ false → Queued box qs (cond due (turned qs) qs)
+      go : (due : Bool) → turnDue box ≡ due → (held : Bool) → tagZeroWaits qs ≡ held → (due && held) ≡ false
+          → Queued box qs (cond due (turned qs) qs)
       go false d h t f = stays qs d p r
       go true d false t f = turns qs d t p r
       go true d true t f = absurd (true≢false f)
@@ -238,7 +253,9 @@ module _ (box : Box) (facts : SoundFacts box) (before-end : box .counter < lastS
 
     third : Queued box queues₁ (moved box .queues)
     unfolding moved queuesStepped
-    third = queued box (settings-facts (box .settings) (facts .settings-allowed) .interval-least) queues₁ unblocked (first .placed) (first .rising)
+    third =
+        queued box (settings-facts (box .settings) (facts .settings-allowed) .interval-least) queues₁ unblocked (first .placed)
+        (first .rising)
 
     packet-stays : (p : Packet) → List·Memᴰ p (packets box) → PacketFacts (moved box) p
     unfolding moved connection connections
@@ -280,14 +297,16 @@ module _ (box : Box) (facts : SoundFacts box) (before-end : box .counter < lastS
           queue-count = third .count ∙ first .count ∙ facts .queue-count;
           in-their-queues = in-their-queues-tagged (moved box) 0 (moved box .queues) ∙ third .placed;
           serials-rise = third .rising;
-          packets-kept = every-all (packetKept (moved box)) (packets (moved box)) (λ p m. packet-test (moved box) p (packet-stays p (was-there p m)));
+          packets-kept =
+              every-all (packetKept (moved box)) (packets (moved box)) (λ p m. packet-test (moved box) p (packet-stays p (was-there p m)));
           link-kept = second .kept;
           count-most = simp length-append (omega arith);
           allowances-kept =
               every-all (λ (s : Standing). allowanceKept (s .asked) (suc (box .counter)) (s .allowance)) (box .standing)
               (λ s m.
               kept-later (s .asked) (box .counter) (suc (box .counter)) (s .allowance) (omega arith)
-              (every-at (λ (s : Standing). allowanceKept (s .asked) (box .counter) (s .allowance)) (box .standing) (facts .allowances-kept) m));
+              (every-at (λ (s : Standing). allowanceKept (s .asked) (box .counter) (s .allowance)) (box .standing)
+              (facts .allowances-kept) m));
         })
 
 -- An answer that is no refusal moves the box.
@@ -297,7 +316,8 @@ sent-moves box departure free = refl
 sent-moves box departure (carries p left) = go (leb left 1)
   where
     go : (last : Bool)
-        → afterStep box (cond last (Stepped.Departed (p .serial) (p .connection) (p .arrival) departure) (Stepped.Sending (p .serial) (left - 1))) ≡ moved box
+        → afterStep box (cond last (Stepped.Departed (p .serial) (p .connection) (p .arrival) departure)
+        (Stepped.Sending (p .serial) (left - 1))) ≡ moved box
     go true = refl
     go false = refl
 

@@ -2,7 +2,9 @@
 use Prim.Native.Nat.{ℕ, zero, suc, _+_, _/_, _%_, _≤_, _<_}
 use mathlib.Core.Path.{_≡_, refl, sym, ap, _∙_}
 use mathlib.Core.Bool.{Bool, true, false, cond, and-eq-true-iff, false≢true}
-use mathlib.Core.List.{List, [], _∷_, _++_, List·Memᴰ, List·Memᴰ·head, List·Memᴰ·tail, List·Memᴰ·cases-cons, List·Memᴰ·not-nil, List·Memᴰ·append-cases, List·Memᴰ·eq-of-singleton, cons-eq-cons, tail-eq-of-cons-eq, head-eq-of-cons-eq, nil≢cons, cons≢nil}
+use mathlib.Core.List.{List, [], _∷_, _++_, List·Memᴰ, List·Memᴰ·head, List·Memᴰ·tail, List·Memᴰ·cases-cons, List·Memᴰ·not-nil}
+use mathlib.Core.List.{List·Memᴰ·append-cases, List·Memᴰ·eq-of-singleton, cons-eq-cons, tail-eq-of-cons-eq, head-eq-of-cons-eq, nil≢cons}
+use mathlib.Core.List.{cons≢nil}
 use mathlib.Core.Logic.{_⊎_, _≢_, inl, inr, ⊎-elim}
 use mathlib.Core.Option.{Option, none, some}
 use native.Mathlib.Nat.{not-suc-le-zero}
@@ -12,7 +14,9 @@ use lib.Dec.{leb, ltb, eqb}
 use borrow.Author.Tests.{eq-eqb, ne-eqb, eqb-true, eqb-false, le-leb, lt-leb, lt-ltb}
 use Rattle.laws.specs.Tests.{bool-cases}
 use Rattle.laws.specs.Turns.{turn-due, turn-not-due}
-use Rattle.meaning.specs.Queues.{Ranked, Move, accept, take, raise, Seen, accepted, taken, raised, blocked, At, turnAt, joinTail, turned, lowestHead, withoutLowestHead, tagZeroWaits, earlier, lowestRank, withoutRank, withoutChosen, rankWaits, raising, byTags, packetOf, byRanks, seenOf}
+use Rattle.meaning.specs.Queues.{Ranked, Move, accept, take, raise, Seen, accepted, taken, raised, blocked, At, turnAt, joinTail}
+use Rattle.meaning.specs.Queues.{turned, lowestHead, withoutLowestHead, tagZeroWaits, earlier, lowestRank, withoutRank}
+use Rattle.meaning.specs.Queues.{withoutChosen, rankWaits, raising, byTags, packetOf, byRanks, seenOf}
 
 module _ {A : Type 0} where
   -- the packets of this rank, in the order of acceptance
@@ -38,7 +42,8 @@ module _ {A : Type 0} where
   cond-cons true x l m t e = ap (λ k. x ∷ k) e
   cond-cons false x l m t e = e
 
-  only-append : (r : ℕ) (w : List (Ranked A)) (p : Ranked A) → only r (w ++ (p ∷ [])) ≡ only r w ++ cond (eqb (p .rankIs) r) (p .packet ∷ []) []
+  only-append : (r : ℕ) (w : List (Ranked A)) (p : Ranked A)
+      → only r (w ++ (p ∷ [])) ≡ only r w ++ cond (eqb (p .rankIs) r) (p .packet ∷ []) []
   unfolding only
   only-append r [] p = refl
   only-append r (q ∷ w) p = cond-cons (eqb (q .rankIs) r) (q .packet) _ _ _ (only-append r w p)
@@ -86,7 +91,8 @@ module _ {A : Type 0} where
   only-nothing r (p ∷ w) h =
       rw (ne-eqb (p .rankIs) r (h p (List·Memᴰ·head refl))) (only-nothing r w (λ q m. h q (List·Memᴰ·tail m)))
 
-  pub layers-turned : (w : List (Ranked A)) (r n : ℕ) → Between w r (suc n) → only r w ≡ [] → turned (layers w r (suc n)) ≡ layers w (suc r) (suc n)
+  pub layers-turned : (w : List (Ranked A)) (r n : ℕ) → Between w r (suc n) → only r w ≡ []
+      → turned (layers w r (suc n)) ≡ layers w (suc r) (suc n)
   unfolding turned layers
   layers-turned w r n h e =
       let top : only (suc r + n) w ≡ [] = only-nothing (suc r + n) w (λ p m q. omega (arith, h p m)) in
@@ -114,7 +120,8 @@ module _ {A : Type 0} where
   rank-waits-not r [] e = refl
   rank-waits-not r (p ∷ w) e = go (eqb (p .rankIs) r) e (rank-waits-not r w)
     where
-      go : (b : Bool) → cond b true (rankWaits r w) ≡ false → (rankWaits r w ≡ false → only r w ≡ []) → cond b (p .packet ∷ only r w) (only r w) ≡ []
+      go : (b : Bool) → cond b true (rankWaits r w) ≡ false → (rankWaits r w ≡ false → only r w ≡ [])
+          → cond b (p .packet ∷ only r w) (only r w) ≡ []
       go true f h = absurd (mathlib.Core.Bool.true≢false f)
       go false f h = h f
 
@@ -150,7 +157,8 @@ module _ {A : Type 0} where
   chosen-first [] r x q h e = absurd (nil≢cons e)
   chosen-first (p ∷ w) r x q h e =
       ⊎-elim (λ (t : eqb (p .rankIs) r ≡ true). here (eqb-true (p .rankIs) r t) (rw t at e))
-      (λ (f : eqb (p .rankIs) r ≡ false). later (eqb-false (p .rankIs) r f) (chosen-first w r x q (λ y m. h y (List·Memᴰ·tail m)) (rw f at e)))
+      (λ (f : eqb (p .rankIs) r ≡ false). later (eqb-false (p .rankIs) r f)
+      (chosen-first w r x q (λ y m. h y (List·Memᴰ·tail m)) (rw f at e)))
       (bool-cases (eqb (p .rankIs) r))
     where
       own : r ≤ p .rankIs

@@ -66,15 +66,22 @@ unfolding offerAnswer offered refusal refusalNumber
 offer-printed box n units place e p =
     let a = accepted-printed box e in
     rw e
-    (go (stands box n) (within 1 units (connection box n .longest)) (conforms (connection box n) (allowance box n) (box .counter)) (leb 1024 (length (waiting box))) a)
+    (go (stands box n) (within 1 units (connection box n .longest)) (conforms (connection box n) (allowance box n) (box .counter))
+    (leb 1024 (length (waiting box))) a)
   where
     go : (a b c d : Bool) → suc (suc (box .accepted)) < 5000000000
         → PrintedLine
         (offerLine place
-        (offered (cond (not a) (Offered.Refused Refusal.NoConnection) (cond (not b) (Offered.Refused Refusal.WrongLength) (cond (not c) (Offered.Refused Refusal.NotFitting) (cond d (Offered.Refused Refusal.StoreFull) (Offered.Accepted (suc (box .accepted)))))))
+        (offered (cond (not a) (Offered.Refused Refusal.NoConnection)
+        (cond (not b) (Offered.Refused Refusal.WrongLength)
+        (cond (not c) (Offered.Refused Refusal.NotFitting)
+        (cond d (Offered.Refused Refusal.StoreFull) (Offered.Accepted (suc (box .accepted)))))))
         .number)
         (getD
-        (offered (cond (not a) (Offered.Refused Refusal.NoConnection) (cond (not b) (Offered.Refused Refusal.WrongLength) (cond (not c) (Offered.Refused Refusal.NotFitting) (cond d (Offered.Refused Refusal.StoreFull) (Offered.Accepted (suc (box .accepted)))))))
+        (offered (cond (not a) (Offered.Refused Refusal.NoConnection)
+        (cond (not b) (Offered.Refused Refusal.WrongLength)
+        (cond (not c) (Offered.Refused Refusal.NotFitting)
+        (cond d (Offered.Refused Refusal.StoreFull) (Offered.Accepted (suc (box .accepted)))))))
         .fields)
         0 0))
     go false b c d h = (p, omega arith, omega arith)
@@ -91,11 +98,18 @@ pub record Offering (box after : Box) (lines : List Line) (count : ℕ) : Type 0
   pub lines-are : length lines ≡ count
   pub printed : AllPrinted lines
 
-pub offers : (numbers : List ℕ) (l : List (Placed Arrival)) (box : Box) → sound box ≡ true → ((a : Placed Arrival) → List·Memᴰ a l → Printed (a .place))
+pub offers : (numbers : List ℕ) (l : List (Placed Arrival)) (box : Box) → sound box ≡ true
+    → ((a : Placed Arrival) → List·Memᴰ a l → Printed (a .place))
     → Offering box (offerAll numbers l box .box) (offerAll numbers l box .lines) (length l)
 unfolding offerAll
 offers numbers [] box e h =
-    record { still-sound = e; counter-stays = refl; packets-most = omega arith; lines-are = refl; printed = λ k m. absurd (List·Memᴰ·not-nil m) }
+    record {
+      still-sound = e;
+      counter-stays = refl;
+      packets-most = omega arith;
+      lines-are = refl;
+      printed = λ k m. absurd (List·Memᴰ·not-nil m);
+    }
 offers numbers (a ∷ l) box e h =
     let n = numberOf numbers (a .entry .place) in
     let u = a .entry .units in

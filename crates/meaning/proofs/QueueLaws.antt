@@ -2,7 +2,9 @@
 use Prim.Native.Nat.{ℕ, zero, suc, _+_, _≤_, _<_}
 use mathlib.Core.Path.{_≡_, refl, sym, ap, _∙_}
 use mathlib.Core.Bool.{Bool, true, false, _&&_, and-eq-true-iff}
-use mathlib.Core.List.{List, [], _∷_, _++_, flatten, append-nil, append-assoc, List·Memᴰ, List·Memᴰ·head, List·Memᴰ·tail, List·Memᴰ·not-nil, List·Memᴰ·cases-cons, List·Memᴰ·append-cases, List·Memᴰ·eq-of-singleton, Memᴰ·append-left, Memᴰ·append-right}
+use mathlib.Core.List.{List, [], _∷_, _++_, flatten, append-nil, append-assoc, List·Memᴰ, List·Memᴰ·head, List·Memᴰ·tail}
+use mathlib.Core.List.{List·Memᴰ·not-nil, List·Memᴰ·cases-cons, List·Memᴰ·append-cases, List·Memᴰ·eq-of-singleton, Memᴰ·append-left}
+use mathlib.Core.List.{Memᴰ·append-right}
 use mathlib.Core.Logic.{_⊎_, inl, inr, ⊎-elim}
 use mathlib.Core.Option.{Option, none, some}
 use native.Mathlib.Nat.{not-suc-le-zero}
@@ -13,7 +15,8 @@ use Rattle.meaning.specs.Queues.{joinTail, turned, lowestHead, withoutLo
 
 module _ {A : Type 0} where
   -- Joining a tail.
-  pub joined-member : (k : ℕ) (p : A) (qs : List (List A)) {x : A} → List·Memᴰ x (flatten (joinTail k p qs)) → (x ≡ p) ⊎ List·Memᴰ x (flatten qs)
+  pub joined-member : (k : ℕ) (p : A) (qs : List (List A)) {x : A} → List·Memᴰ x (flatten (joinTail k p qs))
+      → (x ≡ p) ⊎ List·Memᴰ x (flatten qs)
   unfolding joinTail flatten
   joined-member k p [] m = inr m
   joined-member zero p (q ∷ qs) {x} m =
@@ -53,7 +56,8 @@ module _ {A : Type 0} where
   without-member ([] ∷ qs) m = without-member qs m
   without-member ((p ∷ q) ∷ qs) m = List·Memᴰ·tail m
 
-  pub without-length : (qs : List (List A)) (p : A) → lowestHead qs ≡ some p → length (flatten qs) ≡ suc (length (flatten (withoutLowestHead qs)))
+  pub without-length : (qs : List (List A)) (p : A) → lowestHead qs ≡ some p
+      → length (flatten qs) ≡ suc (length (flatten (withoutLowestHead qs)))
   unfolding lowestHead withoutLowestHead flatten
   without-length [] p e = absurd (let z : _≡_ {A = ℕ} 0 1 = cc in omega arith)
   without-length ([] ∷ qs) p e = without-length qs p e
@@ -112,7 +116,8 @@ module _ {A : Type 0} where
   tagged test k (q ∷ qs) = every (test k) q && tagged test (suc k) qs
 
   module _ (test : ℕ → A → Bool) where
-    tagged-cons : (k : ℕ) (q : List A) (qs : List (List A)) → every (test k) q ≡ true → tagged test (suc k) qs ≡ true → tagged test k (q ∷ qs) ≡ true
+    tagged-cons : (k : ℕ) (q : List A) (qs : List (List A)) → every (test k) q ≡ true → tagged test (suc k) qs ≡ true
+        → tagged test k (q ∷ qs) ≡ true
     unfolding tagged
     tagged-cons k q qs e f = and-eq-true-iff (every (test k) q) (tagged test (suc k) qs) .1 (e, f)
 
@@ -124,7 +129,8 @@ module _ {A : Type 0} where
     unfolding tagged
     tagged-tail k q qs e = and-eq-true-iff (every (test k) q) (tagged test (suc k) qs) .0 e .1
 
-    pub tagged-join : (t k : ℕ) (p : A) (qs : List (List A)) → tagged test k qs ≡ true → test (k + t) p ≡ true → tagged test k (joinTail t p qs) ≡ true
+    pub tagged-join : (t k : ℕ) (p : A) (qs : List (List A)) → tagged test k qs ≡ true → test (k + t) p ≡ true
+        → tagged test k (joinTail t p qs) ≡ true
     unfolding joinTail
     tagged-join t k p [] e h = e
     tagged-join zero k p (q ∷ qs) e h =
@@ -162,5 +168,6 @@ module _ {A : Type 0} where
   tagged-weaken test test′ d k (q ∷ qs) f e =
       let s : suc (d + k) ≡ d + suc k = omega arith in
       tagged-cons test′ k q qs
-      (every-all (test′ k) q (λ p m. f k p (Memᴰ·append-left (flatten qs) m) (every-at (test (d + k)) q (tagged-head test (d + k) q qs e) m)))
+      (every-all (test′ k) q
+      (λ p m. f k p (Memᴰ·append-left (flatten qs) m) (every-at (test (d + k)) q (tagged-head test (d + k) q qs e) m)))
       (tagged-weaken test test′ d (suc k) qs (λ t p m. f t p (Memᴰ·append-right q m)) (rw s at (tagged-tail test (d + k) q qs e)))

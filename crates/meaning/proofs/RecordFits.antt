@@ -111,7 +111,8 @@ counted : (x at : ℕ) (slots : List ℕ) → Descending at slots → x ≤ at �
 unfolding countIn sumOf since
 counted x at slots d h = rw (within-test x at at h (omega arith)) (let e = rest at slots d (omega arith) in omega arith)
   where
-    rest : (top : ℕ) (l : List ℕ) → Descending top l → top ≤ at → sumOf (λ a. cond (within x a at) 1 0) l ≡ sumOf (λ a. cond (leb x a) 1 0) l
+    rest : (top : ℕ) (l : List ℕ) → Descending top l → top ≤ at
+        → sumOf (λ a. cond (within x a at) 1 0) l ≡ sumOf (λ a. cond (leb x a) 1 0) l
     rest top [] d k = refl
     rest top (a ∷ l) d k =
         let i = rest a l (d .1) (let o = d .0 in omega arith) in
@@ -136,7 +137,8 @@ fits-exactly c at slots h k d = (forth, back)
         reached : Made (c .period) at slots → numberOf (c .period) slots + c .period ≤ at + c .burst * c .period
         reached m =
             let l = m .not-after in
-            let t = leb-true _ _ (everyBelow-at (λ x. leb (countIn (at ∷ slots) x at) (c .burst + (at - x) / c .period)) (suc at) e (m .from) (omega arith)) in
+            let t = leb-true _ _
+            (everyBelow-at (λ x. leb (countIn (at ∷ slots) x at) (c .burst + (at - x) / c .period)) (suc at) e (m .from) (omega arith)) in
             let n = counted (m .from) at slots d l in
             let q = within-quotient (countIn (at ∷ slots) (m .from) at) (c .burst) (at - m .from) (c .period) t in
             let p : countIn (at ∷ slots) (m .from) at * c .period ≡ suc (since (m .from) slots) * c .period = ap (λ x. x * c .period) n in
@@ -196,7 +198,8 @@ descending-later at later [] h d = tt
 descending-later at later (a ∷ slots) h d = (let o = d .0 in omega arith, d .1)
 
 same-from : (c : Connection) (from : ℕ) (a : Allowance) (slots offers : List ℕ) → 1 ≤ c .period → 1 ≤ c .burst
-    → Means c from a (numberOf (c .period) slots) → Descending from slots → Ascending from offers → byRecord c a offers ≡ byStretches c slots offers
+    → Means c from a (numberOf (c .period) slots) → Descending from slots → Ascending from offers
+    → byRecord c a offers ≡ byStretches c slots offers
 unfolding byRecord byStretches
 same-from c from a slots [] h k m d u = refl
 same-from c from a slots (at ∷ offers) h k m d u =
@@ -206,11 +209,13 @@ same-from c from a slots (at ∷ offers) h k m d u =
     rw (← e)
     (ap (λ (l : List Bool). conforms c a at ∷ l)
     (⊎-elim
-    (λ (t : conforms c a at ≡ true). rw t (same-from c at (charged c a at) (at ∷ slots) offers h k (record-charged c at a slots h k n t) (omega arith, w) (u .1)))
+    (λ (t : conforms c a at ≡ true). rw t
+    (same-from c at (charged c a at) (at ∷ slots) offers h k (record-charged c at a slots h k n t) (omega arith, w) (u .1)))
     (λ (f : conforms c a at ≡ false). rw f (same-from c at a slots offers h k n w (u .1)))
     (bool-cases (conforms c a at))))
 
 -- From a fresh record, over any offers at slots that never fall.
-pub record-fits : (c : Connection) (offers : List ℕ) → 1 ≤ c .period → 1 ≤ c .burst → Ascending 0 offers → byRecord c (full c) offers ≡ byStretches c [] offers
+pub record-fits : (c : Connection) (offers : List ℕ) → 1 ≤ c .period → 1 ≤ c .burst → Ascending 0 offers
+    → byRecord c (full c) offers ≡ byStretches c [] offers
 unfolding numberOf
 record-fits c offers h k u = same-from c 0 (full c) [] offers h k (full-means c 0) tt u

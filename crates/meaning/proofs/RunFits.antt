@@ -2,7 +2,8 @@
 use Prim.Native.Nat.{ℕ, zero, suc, _+_, _*_, _/_, _≤_, _<_}
 use mathlib.Core.Path.{_≡_, refl, sym, ap, _∙_, subst}
 use mathlib.Core.Bool.{Bool, true, false, cond, not, _&&_, and-eq-true-iff, true≢false}
-use mathlib.Core.List.{List, [], _∷_, _++_, map, flatten, append-nil, List·Memᴰ, List·Memᴰ·head, List·Memᴰ·tail, List·Memᴰ·not-nil, List·Memᴰ·cases-cons}
+use mathlib.Core.List.{List, [], _∷_, _++_, map, flatten, append-nil, List·Memᴰ, List·Memᴰ·head, List·Memᴰ·tail, List·Memᴰ·not-nil}
+use mathlib.Core.List.{List·Memᴰ·cases-cons}
 use mathlib.Core.Logic.{⊎-elim}
 use native.Mathlib.Omega.{arith}
 use lib.ListN.{length, getD, replicate}
@@ -26,8 +27,10 @@ use Rattle.meaning.specs.Box.{Box, onLink, waiting, packets, sound}
 use Rattle.meaning.specs.Answers.{refusalNumber, failingT, admitted}
 use Rattle.meaning.specs.Calls.{newBox, openingAnswer, withNewcomer, searchAnswer, admissionAnswer, withStanding, afterAdmission}
 use Rattle.meaning.specs.declared.Arrival.{Arrival}
-use Rattle.meaning.specs.Plan.{Plan, wordsOf, headerOf, contentsOf, table, countsAllowed, layoutWrong, slotsWrong, sizeWrong, sumWrong, readingAnswer, connectionAt, arrivalAt}
-use Rattle.meaning.specs.Run.{Line, admitLine, refusedLine, lineOfAdmission, admitAll, phase, slots, slotsEnough, openRun, planRun, readRun, run}
+use Rattle.meaning.specs.Plan.{Plan, wordsOf, headerOf, contentsOf, table, countsAllowed, layoutWrong, slotsWrong, sizeWrong}
+use Rattle.meaning.specs.Plan.{sumWrong, readingAnswer, connectionAt, arrivalAt}
+use Rattle.meaning.specs.Run.{Line, admitLine, refusedLine, lineOfAdmission, admitAll, phase, slots, slotsEnough, openRun, planRun}
+use Rattle.meaning.specs.Run.{readRun, run}
 use Rattle.meaning.specs.Lines.{runText, textMost}
 use Rattle.meaning.proofs.Facts.{sound-facts, settings-facts}
 use Rattle.meaning.specs.Rest.{from}
@@ -54,15 +57,19 @@ admission-printed box c place e p r =
         let b = f .cycle-most in
         omega arith
 
-    go : (a b d : Bool) (s : Search) → firstFailing (conditionAt (box .settings) (withNewcomer box c)) (largestBound (box .settings) + box .settings .cycle) ≡ s
+    go : (a b d : Bool) (s : Search)
+        → firstFailing (conditionAt (box .settings) (withNewcomer box c)) (largestBound (box .settings) + box .settings .cycle) ≡ s
         → PrintedLine
         (lineOfAdmission place
-        (cond (not a) (Admitted.Refused Refusal.ConnectionOffRange) (cond b (Admitted.Refused Refusal.TableFull) (cond (not d) (Admitted.Refused Refusal.RateExceeded) (searchAnswer (suc (length (box .standing))) s)))))
+        (cond (not a) (Admitted.Refused Refusal.ConnectionOffRange)
+        (cond b (Admitted.Refused Refusal.TableFull)
+        (cond (not d) (Admitted.Refused Refusal.RateExceeded) (searchAnswer (suc (length (box .standing))) s)))))
     go false b d s q = (p, omega arith, omega arith)
     go true true d s q = (p, omega arith, omega arith)
     go true false false s q = (p, omega arith, omega arith)
     go true false true (failsAt t) q =
-        let l = first-failing-fails (conditionAt (box .settings) (withNewcomer box c)) (largestBound (box .settings) + box .settings .cycle) t q .0 in
+        let l = first-failing-fails (conditionAt (box .settings) (withNewcomer box c))
+        (largestBound (box .settings) + box .settings .cycle) t q .0 in
         let g = range in
         (p, omega arith, omega arith)
     go true false true holds q = (p, omega arith, omega arith)
@@ -106,7 +113,9 @@ admissions place (c ∷ cs) box e h =
       few =
           record {
             count = omega arith;
-            printed = λ k m. ⊎-elim (λ (i : k ≡ lineOfAdmission place answer). subst PrintedLine (sym i) own) (rest .few .printed k) (List·Memᴰ·cases-cons m);
+            printed =
+                λ k m. ⊎-elim (λ (i : k ≡ lineOfAdmission place answer). subst PrintedLine (sym i) own) (rest .few .printed k)
+                (List·Memᴰ·cases-cons m);
           };
     }
 
@@ -142,7 +151,8 @@ open-few plan e c a =
     let l = placedFrom 1 (plan .arrivals) in
     let p : length (packets box) ≡ 0 = ap length (ad .packets-stay ∙ new-packets (plan .settings)) in
     let k : box .counter ≡ 0 = ad .counter-stays ∙ new-counter (plan .settings) in
-    let f : from one (box .counter) l ≡ length (plan .arrivals) = ap (λ n. from one n l) k ∙ from-start one l ∙ length-is l ∙ placed-length 1 (plan .arrivals) in
+    let f : from one (box .counter) l ≡ length (plan .arrivals) =
+    ap (λ n. from one n l) k ∙ from-start one l ∙ length-is l ∙ placed-length 1 (plan .arrivals) in
     let n = ad .numbers-are in
     let s = slots-few (slotsEnough l) l numbers box 0
     (record {
@@ -182,12 +192,14 @@ arrival-count ws h = table-length arrivalAt 3 ws (h .arrivals .start / 4) (h .ar
 refused-few : (why : Refusal) → Few (refusedLine (refusalNumber why) ∷ []) 8225
 refused-few why = let r = refusal-range why in few-more (few-one (refusedLine (refusalNumber why)) (omega arith)) (omega arith)
 
-planned-few : (plan : Plan) → length (plan .connections) ≤ 32 → length (plan .arrivals) ≤ 4096 → Few (planRun plan (openingAnswer 0 0 (plan .settings))) 8225
+planned-few : (plan : Plan) → length (plan .connections) ≤ 32 → length (plan .arrivals) ≤ 4096
+    → Few (planRun plan (openingAnswer 0 0 (plan .settings))) 8225
 unfolding planRun openingAnswer
 planned-few plan c a = go (settingsAllowed (plan .settings)) refl
   where
     go : (b : Bool) → settingsAllowed (plan .settings) ≡ b
-        → Few (planRun plan (cond (not b) (Opened.Refused Refusal.SettingsOffRange) (cond false (Opened.Refused Refusal.TooShort) Opened.Done))) 8225
+        → Few (planRun plan (cond (not b) (Opened.Refused Refusal.SettingsOffRange)
+        (cond false (Opened.Refused Refusal.TooShort) Opened.Done))) 8225
     go true e = open-few plan e c a
     go false e = refused-few Refusal.SettingsOffRange
 
@@ -196,16 +208,21 @@ unfolding run readRun readingAnswer
 read-few bytes = go (sizeWrong bytes) (sumWrong (wordsOf bytes)) (layoutWrong (length bytes) (headerOf (wordsOf bytes))) refl
     (slotsWrong (contentsOf (wordsOf bytes) (headerOf (wordsOf bytes)) .arrivals))
   where
-    good : layoutWrong (length bytes) (headerOf (wordsOf bytes)) ≡ false → Few (readRun bytes (PlanRead.Good (headerOf (wordsOf bytes)))) 8225
+    good : layoutWrong (length bytes) (headerOf (wordsOf bytes)) ≡ false
+        → Few (readRun bytes (PlanRead.Good (headerOf (wordsOf bytes)))) 8225
     good e =
         let k = counts-kept (length bytes) (headerOf (wordsOf bytes)) e in
-        planned-few (contentsOf (wordsOf bytes) (headerOf (wordsOf bytes))) (subst (λ n. n ≤ 32) (sym (connection-count (wordsOf bytes) (headerOf (wordsOf bytes)))) (k .0))
+        planned-few (contentsOf (wordsOf bytes) (headerOf (wordsOf bytes)))
+        (subst (λ n. n ≤ 32) (sym (connection-count (wordsOf bytes) (headerOf (wordsOf bytes)))) (k .0))
         (subst (λ n. n ≤ 4096) (sym (arrival-count (wordsOf bytes) (headerOf (wordsOf bytes)))) (k .1))
 
     go : (a b c : Bool) → layoutWrong (length bytes) (headerOf (wordsOf bytes)) ≡ c → (d : Bool)
         → Few
         (readRun bytes
-        (cond a (PlanRead.Refused Refusal.WrongSize) (cond b (PlanRead.Refused Refusal.WrongSum) (cond c (PlanRead.Refused Refusal.WrongLayout) (cond d (PlanRead.Refused Refusal.WrongSlots) (PlanRead.Good (headerOf (wordsOf bytes))))))))
+        (cond a (PlanRead.Refused Refusal.WrongSize)
+        (cond b (PlanRead.Refused Refusal.WrongSum)
+        (cond c (PlanRead.Refused Refusal.WrongLayout)
+        (cond d (PlanRead.Refused Refusal.WrongSlots) (PlanRead.Good (headerOf (wordsOf bytes))))))))
         8225
     go true b c e d = refused-few Refusal.WrongSize
     go false true c e d = refused-few Refusal.WrongSum

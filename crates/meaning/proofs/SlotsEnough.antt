@@ -25,7 +25,8 @@ use Rattle.meaning.specs.Calls.{newBox, withStanding, admissionAnswer, a
 use Rattle.meaning.specs.Step.{loaded, linkTaken, queuesTaken, linkSent, turnDue, stepAnswer, queuesStepped, moved, afterStep}
 use Rattle.meaning.specs.declared.Arrival.{Arrival}
 use Rattle.meaning.specs.Plan.{Plan}
-use Rattle.meaning.specs.Run.{Line, AfterOffers, Phase, going, ended, stopped, admitAll, numberOf, offerAll, departures, finished, phase, slots, slotsEnough}
+use Rattle.meaning.specs.Run.{Line, AfterOffers, Phase, going, ended, stopped, admitAll, numberOf, offerAll, departures, finished}
+use Rattle.meaning.specs.Run.{phase, slots, slotsEnough}
 use Rattle.meaning.specs.Rest.{size, linkWeight, weight, arrivalSize, from, potential, dueNow}
 use Rattle.meaning.proofs.Readings.{refused-phase}
 use Rattle.meaning.proofs.ArrivalSums.{next-slot, from-start}
@@ -44,7 +45,8 @@ joined-least k p [] = omega arith
 joined-least zero p (q ∷ qs) = simp (sum-append) (omega arith)
 joined-least (suc k) p (q ∷ qs) = let i = joined-least k p qs in simp (sum-append) (omega arith)
 
-taken-sum : (p : Packet) (qs : List (List Packet)) → lowestHead qs ≡ some p → sumOf size (flatten qs) ≡ size p + sumOf size (flatten (withoutLowestHead qs))
+taken-sum : (p : Packet) (qs : List (List Packet)) → lowestHead qs ≡ some p
+    → sumOf size (flatten qs) ≡ size p + sumOf size (flatten (withoutLowestHead qs))
 unfolding lowestHead withoutLowestHead flatten sumOf
 taken-sum p [] e = absurd (let z : _≡_ {A = ℕ} 0 1 = cc in omega arith)
 taken-sum p ([] ∷ qs) e = taken-sum p qs e
@@ -80,7 +82,8 @@ sent-less free qs = by-head (lowestHead qs) refl
         → sumOf size (flatten (withoutLowestHead qs)) + linkWeight (linkSent (loaded o)) ≤ sumOf size (flatten qs) + 0 - 1
     by-head none e =
         let s = sent-weight free in
-        let z : sumOf size (flatten (withoutLowestHead qs)) ≡ 0 = ap (λ q. sumOf size (flatten q)) (nothing-taken qs e) ∙ ap (sumOf size) (nothing-waits qs e) ∙ no-size in
+        let z : sumOf size (flatten (withoutLowestHead qs)) ≡ 0 =
+        ap (λ q. sumOf size (flatten q)) (nothing-taken qs e) ∙ ap (sumOf size) (nothing-waits qs e) ∙ no-size in
         omega arith
     by-head (some p) e =
         let s = sent-weight (carries p (p .units)) in
@@ -94,7 +97,8 @@ step-weight box = turn (turnDue box) (sent-less (box .link) (box .queues))
     turn : (due : Bool)
         → sumOf size (flatten (queuesTaken (box .link) (box .queues))) + linkWeight (linkSent (linkTaken (box .link) (box .queues)))
         ≤ sumOf size (flatten (box .queues)) + linkWeight (box .link) - 1
-        → sumOf size (flatten (cond due (turned (queuesTaken (box .link) (box .queues))) (queuesTaken (box .link) (box .queues)))) + linkWeight (linkSent (linkTaken (box .link) (box .queues)))
+        → sumOf size (flatten (cond due (turned (queuesTaken (box .link) (box .queues))) (queuesTaken (box .link) (box .queues)))) +
+        linkWeight (linkSent (linkTaken (box .link) (box .queues)))
         ≤ sumOf size (flatten (box .queues)) + linkWeight (box .link) - 1
     turn true h = rw (turned-sum (queuesTaken (box .link) (box .queues))) h
     turn false h = h
@@ -114,7 +118,8 @@ offer-weight box n units (Offered.Accepted serial) =
     record { counter-stays = refl; most = omega arith; least = omega arith }
 offer-weight box n units (Offered.Refused why) = record { counter-stays = refl; most = omega arith; least = omega arith }
 
-offers-weight : (numbers : List ℕ) (l : List (Placed Arrival)) (box : Box) → Offering box (offerAll numbers l box .box) (sumOf arrivalSize l)
+offers-weight : (numbers : List ℕ) (l : List (Placed Arrival)) (box : Box)
+    → Offering box (offerAll numbers l box .box) (sumOf arrivalSize l)
 unfolding offerAll sumOf
 offers-weight numbers [] box = record { counter-stays = refl; most = omega arith; least = omega arith }
 offers-weight numbers (a ∷ l) box =
@@ -128,7 +133,8 @@ offers-weight numbers (a ∷ l) box =
     record { counter-stays = rest .counter-stays ∙ one .counter-stays; most = omega arith; least = omega arith }
 
 -- A run that is not finished has an arrival to come or something to send.
-some-to-come : (slot : ℕ) (l : List (Placed Arrival)) → every (λ a. ltb (a .entry .slot) slot) l ≡ false → slot ≤ largestOf (λ a. a .entry .slot) l
+some-to-come : (slot : ℕ) (l : List (Placed Arrival)) → every (λ a. ltb (a .entry .slot) slot) l ≡ false
+    → slot ≤ largestOf (λ a. a .entry .slot) l
 unfolding every largestOf
 some-to-come slot [] e = absurd (true≢false e)
 some-to-come slot (a ∷ l) e = go (ltb (a .entry .slot) slot) refl (some-to-come slot l) e
@@ -156,7 +162,8 @@ some-to-send box e =
     let k = link-length (box .link) in
     omega arith
 
-not-finished : (l : List (Placed Arrival)) (box : Box) → finished l box ≡ false → (box .counter ≤ largestOf (λ a. a .entry .slot) l) ⊎ (1 ≤ weight box)
+not-finished : (l : List (Placed Arrival)) (box : Box) → finished l box ≡ false
+    → (box .counter ≤ largestOf (λ a. a .entry .slot) l) ⊎ (1 ≤ weight box)
 unfolding finished
 not-finished l box f = go (every (λ a. ltb (a .entry .slot) (box .counter)) l) refl f
   where
@@ -214,17 +221,22 @@ enough (suc n) k l numbers box departed h =
     let p = falls numbers l box f in
     let one = not-finished l box f in
     let q : 1 ≤ potential l box = omega arith in
-    after-step-same n k l numbers after (departed + length out) (stepAnswer after) (omega arith) (enough n k l numbers (moved after) (departed + length out) (omega arith))))
+    after-step-same n k l numbers after (departed + length out) (stepAnswer after) (omega arith)
+    (enough n k l numbers (moved after) (departed + length out) (omega arith))))
   where
     afterOffers : AfterOffers
     afterOffers = offerAll numbers (keep (λ a. eqb (a .entry .slot) (box .counter)) l) box
 
     go : (f : Bool) → finished l box ≡ f
         → (finished l box ≡ false
-        → slots (n + k) (phase l (afterStep (afterOffers .box) (stepAnswer (afterOffers .box))) (stepped (stepAnswer (afterOffers .box)) .number)) l numbers
-        (afterStep (afterOffers .box) (stepAnswer (afterOffers .box))) (departed + length (departures numbers (stepAnswer (afterOffers .box))))
-        ≡ slots n (phase l (afterStep (afterOffers .box) (stepAnswer (afterOffers .box))) (stepped (stepAnswer (afterOffers .box)) .number)) l numbers
-        (afterStep (afterOffers .box) (stepAnswer (afterOffers .box))) (departed + length (departures numbers (stepAnswer (afterOffers .box)))))
+        → slots (n + k) (phase l (afterStep (afterOffers .box) (stepAnswer (afterOffers .box)))
+        (stepped (stepAnswer (afterOffers .box)) .number)) l numbers
+        (afterStep (afterOffers .box) (stepAnswer (afterOffers .box)))
+        (departed + length (departures numbers (stepAnswer (afterOffers .box))))
+        ≡ slots n (phase l (afterStep (afterOffers .box) (stepAnswer (afterOffers .box)))
+        (stepped (stepAnswer (afterOffers .box)) .number)) l numbers
+        (afterStep (afterOffers .box) (stepAnswer (afterOffers .box)))
+        (departed + length (departures numbers (stepAnswer (afterOffers .box)))))
         → slots (suc (n + k)) (cond f ended going) l numbers box departed ≡ slots (suc n) (cond f ended going) l numbers box departed
     go true e ih = refl
     go false e ih = ap (λ (m : List Line). afterOffers .lines ++ departures numbers (stepAnswer (afterOffers .box)) ++ m) (ih e)
@@ -267,4 +279,5 @@ slots-enough plan k =
     let admissions = admitAll 1 (plan .connections) start in
     let l = placedFrom 1 (plan .arrivals) in
     let w = admissions-weight 1 (plan .connections) start in
-    enough (slotsEnough l) k l (admissions .numbers) (admissions .box) 0 (start-potential l (admissions .box) (w .0) (w .1 ∙ new-weight (plan .settings)))
+    enough (slotsEnough l) k l (admissions .numbers) (admissions .box) 0
+    (start-potential l (admissions .box) (w .0) (w .1 ∙ new-weight (plan .settings)))

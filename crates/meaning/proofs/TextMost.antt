@@ -46,7 +46,8 @@ line-most : (l : Line) → PrintedLine l → length (lineText l) ≤ 51
 unfolding lineText lineOf numbersText ascii
 line-most (admitLine a b c) p = simp length-append (omega (arith, printed-most a (p .0), printed-most b (p .1), printed-most c (p .2)))
 line-most (offerLine a b c) p = simp length-append (omega (arith, printed-most a (p .0), printed-most b (p .1), printed-most c (p .2)))
-line-most (departLine a b c d) p = simp length-append (omega (arith, printed-most a (p .0), printed-most b (p .1), printed-most c (p .2), printed-most d (p .3)))
+line-most (departLine a b c d) p =
+    simp length-append (omega (arith, printed-most a (p .0), printed-most b (p .1), printed-most c (p .2), printed-most d (p .3)))
 line-most (endLine a b c) p = simp length-append (omega (arith, printed-most a (p .0), printed-most b (p .1), printed-most c (p .2)))
 line-most (refusedLine a) p = simp length-append (omega (arith, printed-most a p))
 line-most (stopLine a) p = simp length-append (omega (arith, printed-most a p))

@@ -8,7 +8,8 @@ use Rattle.laws.specs.Tests.{within, every}
 use Rattle.meaning.specs.declared.Connection.{Connection}
 use Rattle.meaning.specs.declared.Packet.{Packet}
 use Rattle.meaning.specs.declared.Standing.{Standing}
-use Rattle.meaning.specs.Numbers.{Settings, largestFactor, settingsAllowed, connectionAllowed, risingAbove, mostConnections, mostWaiting, lastSlot}
+use Rattle.meaning.specs.Numbers.{Settings, largestFactor, settingsAllowed, connectionAllowed, risingAbove, mostConnections}
+use Rattle.meaning.specs.Numbers.{mostWaiting, lastSlot}
 use Rattle.meaning.specs.declared.Allowance.{Allowance}
 use Rattle.meaning.specs.Envelope.{allowanceKept}
 use Rattle.meaning.specs.Queues.{rank}

@@ -11,7 +11,8 @@ use Rattle.memory.specs.Performed.{Performed, PerformedRun}
 use Rattle.memory.proofs.RunOnWords.{run-on-words}
 
 -- The promise of a call settles its answer and the words that it leaves.
-pub performed-call : (ws : List ℕ) (c : Call) (r : Reply) (exit : List ℕ) → Performed ws c r exit → (r ≡ replyOn ws c) × (exit ≡ leftBy ws c)
+pub performed-call : (ws : List ℕ) (c : Call) (r : Reply) (exit : List ℕ) → Performed ws c r exit
+    → (r ≡ replyOn ws c) × (exit ≡ leftBy ws c)
 unfolding Performed replyOn leftBy
 performed-call ws (admit c) (toAdmission r) exit p = (ap toAdmission (p .0), p .1)
 performed-call ws (admit c) (toOffer r) exit p = absurd p

@@ -14,7 +14,8 @@ use Rattle.laws.specs.Series.{length-series, getD-series}
 use Rattle.meaning.specs.declared.Refusal.{Refusal}
 use Rattle.meaning.specs.declared.Admitted.{Admitted}
 use Rattle.meaning.specs.declared.Connection.{Connection}
-use Rattle.meaning.specs.Numbers.{Settings, classCount, classAllowed, longestAllowed, burstAllowed, periodAllowed, connectionAllowed, mostConnections}
+use Rattle.meaning.specs.Numbers.{Settings, classCount, classAllowed, longestAllowed, burstAllowed, periodAllowed, connectionAllowed}
+use Rattle.meaning.specs.Numbers.{mostConnections}
 use Rattle.meaning.specs.Envelope.{full}
 use Rattle.meaning.specs.Admission.{rate, rateHolds, finiteSearch}
 use Rattle.meaning.specs.declared.Standing.{Standing}

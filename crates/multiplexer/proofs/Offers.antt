@@ -38,15 +38,20 @@ use Rattle.multiplexer.specs.Promised.{Leaves, RowReady, Acceptable, acc
 use Rattle.multiplexer.proofs.Sounds.{facts, leaves-same, leaves}
 
 -- The envelope uses only the burst and the period of a connection.
-pub conforms-same : (row : Standing) (a : Allowance) (slot : ℕ) → conforms (sender (row .asked .burst) (row .asked .period)) a slot ≡ conforms (row .asked) a slot
+pub conforms-same : (row : Standing) (a : Allowance) (slot : ℕ)
+    → conforms (sender (row .asked .burst) (row .asked .period)) a slot ≡ conforms (row .asked) a slot
 unfolding conforms refilled cameBack full
 conforms-same row a slot = refl
 
-pub charged-same : (row : Standing) (a : Allowance) (slot : ℕ) → charged (sender (row .asked .burst) (row .asked .period)) a slot ≡ charged (row .asked) a slot
+-- So is the charge.
+pub charged-same : (row : Standing) (a : Allowance) (slot : ℕ)
+    → charged (sender (row .asked .burst) (row .asked .period)) a slot ≡ charged (row .asked) a slot
 unfolding charged refilled cameBack full
 charged-same row a slot = refl
 
-kept-same : (row : Standing) (a : Allowance) (slot : ℕ) → allowanceKept (sender (row .asked .burst) (row .asked .period)) slot a ≡ allowanceKept (row .asked) slot a
+-- So is the range of the allowance.
+kept-same : (row : Standing) (a : Allowance) (slot : ℕ)
+    → allowanceKept (sender (row .asked .burst) (row .asked .period)) slot a ≡ allowanceKept (row .asked) slot a
 unfolding allowanceKept
 kept-same row a slot = refl
 
@@ -81,7 +86,8 @@ module _ (ws : List ℕ) (n : ℕ) (row : Standing) (h : soundWords ws ≡ true)
           period-most = omega arith;
           slot-most = facts ws h .counter-most;
           kept = subst (λ c. allowanceKept c (contents ws .counter) (row .allowance) ≡ true) asked
-              (subst (λ a. allowanceKept (connection (contents ws) n) (contents ws .counter) a ≡ true) allowed (allowance-kept (contents ws) n (facts ws h) s));
+              (subst (λ a. allowanceKept (connection (contents ws) n) (contents ws .counter) a ≡ true) allowed
+              (allowance-kept (contents ws) n (facts ws h) s));
         }
 
     pub class-within : (1 ≤ row .asked .class) × (row .asked .class ≤ word ws classesAt)
@@ -92,6 +98,7 @@ module _ (ws : List ℕ) (n : ℕ) (row : Standing) (h : soundWords ws ≡ true)
         let c = f .class-most in
         (f .class-least, omega arith)
 
+-- A connection that stands has its number among the rows.
 pub number-within : (ws : List ℕ) (n : ℕ) → stands (contents ws) n ≡ true → (1 ≤ n) × (n ≤ word ws rowCountAt)
 unfolding stands contents
 number-within ws n s =
@@ -123,31 +130,39 @@ accepted-most ws h =
     on-link free = omega arith
     on-link (carries p left) = omega arith
 
+-- The word of the count of accepted packets.
 accepted-word : (ws : List ℕ) → word ws acceptedAt ≡ contents ws .accepted
 unfolding contents
 accepted-word ws = refl
 
 -- The three changes of an acceptance: the allowance a is written, the packet joins the queue tagged `tag`, and it is counted.
 module _ (ws : List ℕ) (n units : ℕ) (row : Standing) (ok : Acceptable ws n units row) (a : Allowance) (tag : ℕ) where
+  -- The box before the packet is accepted.
   abbrev box : Box
   box = contents ws
 
+  -- The packet.
   abbrev packet : Packet
   packet = record { serial = suc (box .accepted); connection = n; units = units; arrival = box .counter }
 
+  -- The box once its connection is charged.
   abbrev chargedBox : Box
   chargedBox = withStanding box (set (box .standing) (n - 1) (record { asked = connection box n; allowance = a }))
 
+  -- The box once it waits.
   abbrev joinedBox : Box
   joinedBox = withQueues chargedBox (joinTail tag packet (chargedBox .queues))
 
   module _ (w₁ : List ℕ) (charges : Become ws w₁ chargedBox) where
-    pub join-ready : tag ≤ largestFactor (box .settings) → Fitting w₁ × (tag ≤ largestFactor (contents w₁ .settings)) × (lengthsBelow w₁ 64 < 1024)
+    pub join-ready : tag ≤ largestFactor (box .settings)
+        → Fitting w₁ × (tag ≤ largestFactor (contents w₁ .settings)) × (lengthsBelow w₁ 64 < 1024)
     unfolding withStanding waiting
     join-ready t =
         let c = waiting-count w₁ (charges .fitting .untagged) (charges .fitting .largest) in
-        let e : length (flatten (contents w₁ .queues)) ≡ length (flatten (box .queues)) = ap (λ b. length (flatten (b .queues))) (charges .stands-for) in
-        let s : largestFactor (contents w₁ .settings) ≡ largestFactor (box .settings) = ap (λ b. largestFactor (b .settings)) (charges .stands-for) in
+        let e : length (flatten (contents w₁ .queues)) ≡ length (flatten (box .queues)) =
+        ap (λ b. length (flatten (b .queues))) (charges .stands-for) in
+        let s : largestFactor (contents w₁ .settings) ≡ largestFactor (box .settings) =
+        ap (λ b. largestFactor (b .settings)) (charges .stands-for) in
         let r = ok .room in
         (charges .fitting, omega arith, omega arith)
 
@@ -165,7 +180,8 @@ module _ (ws : List ℕ) (n units : ℕ) (row : Standing) (ok : Acceptable ws n 
           let f = accepted-most ws (ok .sound-words) in
           (joins .fitting, omega arith)
 
-      counted-same : length (waiting (withQueues (contents w₁) (joinTail tag packet (contents w₁ .queues)))) ≡ length (waiting (withAccepted (contents w₂) (suc (contents w₂ .accepted))))
+      counted-same : length (waiting (withQueues (contents w₁) (joinTail tag packet (contents w₁ .queues)))) ≡
+          length (waiting (withAccepted (contents w₂) (suc (contents w₂ .accepted))))
       unfolding waiting withAccepted
       counted-same = ap (λ b. length (flatten (b .queues))) (sym (joins .stands-for))
 
@@ -177,8 +193,10 @@ module _ (ws : List ℕ) (n units : ℕ) (row : Standing) (ok : Acceptable ws n 
           → withAccepted joinedBox (suc (joinedBox .accepted)) ≡ acceptedBox box n units
       unfolding withAccepted withQueues withStanding afterOffer chargedAt joined
       box-is ca ct =
-          let e : a ≡ charged (connection box n) (allowance box n) (box .counter) = ca ∙ sym (ap₂ (λ c b. charged c b (box .counter)) (ok .row-asked) (ok .row-allowance)) in
-          let f : tag ≡ factor (box .settings) (connection box n .class) = ct ∙ sym (ap (λ c. factor (box .settings) (c .class)) (ok .row-asked)) in
+          let e : a ≡ charged (connection box n) (allowance box n) (box .counter) =
+          ca ∙ sym (ap₂ (λ c b. charged c b (box .counter)) (ok .row-asked) (ok .row-allowance)) in
+          let f : tag ≡ factor (box .settings) (connection box n .class) =
+          ct ∙ sym (ap (λ c. factor (box .settings) (c .class)) (ok .row-asked)) in
           ap₂ built e f
         where
           built : Allowance → ℕ → Box
@@ -193,7 +211,8 @@ module _ (ws : List ℕ) (n units : ℕ) (row : Standing) (ok : Acceptable ws n 
               }
 
       -- they make the box of an accepted offer
-      pub accepted-becomes : a ≡ charged (row .asked) (row .allowance) (box .counter) → tag ≡ factor (box .settings) (row .asked .class) → tag ≤ largestFactor (box .settings)
+      pub accepted-becomes : a ≡ charged (row .asked) (row .allowance) (box .counter) → tag ≡ factor (box .settings) (row .asked .class)
+          → tag ≤ largestFactor (box .settings)
           → (w₃ : List ℕ) → Become w₂ w₃ (withAccepted (contents w₂) (suc (contents w₂ .accepted))) → Become ws w₃ (acceptedBox box n units)
       accepted-becomes ca ct t w₃ counts =
           let more : length (waiting joinedBox) ≡ suc (length (waiting chargedBox)) = joined-more t in
@@ -204,7 +223,8 @@ module _ (ws : List ℕ) (n units : ℕ) (row : Standing) (ok : Acceptable ws n 
           subst (Become ws w₃) (ap (λ b. withAccepted b (suc (b .accepted))) joined-is ∙ box-is ca ct) three
 
 -- Whether a connection stands, as the code tests it.
-pub stands-as : (b : Box) (n count : ℕ) → count ≡ length (b .standing) → (r : Bool) → r ≡ within 1 n count → {t : Bool} → r ≡ t → stands b n ≡ t
+pub stands-as : (b : Box) (n count : ℕ) → count ≡ length (b .standing) → (r : Bool) → r ≡ within 1 n count → {t : Bool} → r ≡ t
+    → stands b n ≡ t
 unfolding stands
 stands-as b n count e r f g = ap (within 1 n) (sym e) ∙ sym f ∙ g
 
@@ -217,40 +237,54 @@ packet-is ws n units serial slot e f =
 
 -- The answers of an offer on sound contents, in their order.
 module _ (b : Box) (n units : ℕ) (s : sound b ≡ true) where
+  -- 7.
   pub answer-unknown : stands b n ≡ false → (Offered.Refused Refusal.NoConnection) ≡ offerAnswer b n units
   unfolding offerAnswer
   answer-unknown e = rw (s, e) refl
 
-  pub answer-length : stands b n ≡ true → within 1 units (connection b n .longest) ≡ false → (Offered.Refused Refusal.WrongLength) ≡ offerAnswer b n units
+  -- 8.
+  pub answer-length : stands b n ≡ true → within 1 units (connection b n .longest) ≡ false
+      → (Offered.Refused Refusal.WrongLength) ≡ offerAnswer b n units
   unfolding offerAnswer
   answer-length e f = rw (s, e, f) refl
 
-  pub answer-unfit : stands b n ≡ true → within 1 units (connection b n .longest) ≡ true → conforms (connection b n) (allowance b n) (b .counter) ≡ false
+  -- 9.
+  pub answer-unfit : stands b n ≡ true → within 1 units (connection b n .longest) ≡ true
+      → conforms (connection b n) (allowance b n) (b .counter) ≡ false
       → (Offered.Refused Refusal.NotFitting) ≡ offerAnswer b n units
   unfolding offerAnswer
   answer-unfit e f g = rw (s, e, f, g) refl
 
-  pub answer-full : stands b n ≡ true → within 1 units (connection b n .longest) ≡ true → conforms (connection b n) (allowance b n) (b .counter) ≡ true
+  -- 10.
+  pub answer-full : stands b n ≡ true → within 1 units (connection b n .longest) ≡ true
+      → conforms (connection b n) (allowance b n) (b .counter) ≡ true
       → mostWaiting ≤ length (waiting b) → (Offered.Refused Refusal.StoreFull) ≡ offerAnswer b n units
   unfolding offerAnswer
   answer-full e f g h = rw (s, e, f, g, le-leb mostWaiting (length (waiting b)) h) refl
 
-  pub answer-accepted : stands b n ≡ true → within 1 units (connection b n .longest) ≡ true → conforms (connection b n) (allowance b n) (b .counter) ≡ true
+  -- The serial.
+  pub answer-accepted : stands b n ≡ true → within 1 units (connection b n .longest) ≡ true
+      → conforms (connection b n) (allowance b n) (b .counter) ≡ true
       → length (waiting b) < mostWaiting → Offered.Accepted (suc (b .accepted)) ≡ offerAnswer b n units
   unfolding offerAnswer
   answer-accepted e f g h = rw (s, e, f, g, lt-leb mostWaiting (length (waiting b)) h) refl
 
 -- What an answer leaves.
 module _ (ws : List ℕ) (n units : ℕ) (h : soundWords ws ≡ true) where
+  -- A refusal leaves the words as they were.
   pub refused : (r : Offered) → r ≡ offerAnswer (contents ws) n units → afterOffer (contents ws) n units r ≡ contents ws
       → (r ≡ offerAnswer (contents ws) n units) × Leaves ws ws (afterOffer (contents ws) n units (offerAnswer (contents ws) n units))
   refused r e same = (e, subst (Leaves ws ws) (sym same ∙ ap (afterOffer (contents ws) n units) e) (leaves-same ws h))
 
-  pub taken : (after : List ℕ) (serial : ℕ) → serial ≡ suc (contents ws .accepted) → Offered.Accepted (suc (contents ws .accepted)) ≡ offerAnswer (contents ws) n units
+  -- A packet that is taken leaves the box with it.
+  pub taken : (after : List ℕ) (serial : ℕ) → serial ≡ suc (contents ws .accepted)
+      → Offered.Accepted (suc (contents ws .accepted)) ≡ offerAnswer (contents ws) n units
       → Become ws after (acceptedBox (contents ws) n units)
-      → (Offered.Accepted serial ≡ offerAnswer (contents ws) n units) × Leaves ws after (afterOffer (contents ws) n units (offerAnswer (contents ws) n units))
+      → (Offered.Accepted serial ≡ offerAnswer (contents ws) n units) ×
+      Leaves ws after (afterOffer (contents ws) n units (offerAnswer (contents ws) n units))
   taken after serial q e b = (
     ap Offered.Accepted q ∙ e,
-    leaves ws after (afterOffer (contents ws) n units (offerAnswer (contents ws) n units)) h (offer-keeps-sound (contents ws) n units (sound-contents ws h))
+    leaves ws after (afterOffer (contents ws) n units (offerAnswer (contents ws) n units)) h
+        (offer-keeps-sound (contents ws) n units (sound-contents ws h))
         (subst (Become ws after) (ap (afterOffer (contents ws) n units) e) b),
   )

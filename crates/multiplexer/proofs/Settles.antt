@@ -8,7 +8,8 @@ use Rattle.meaning.specs.declared.Offered.{Offered}
 use Rattle.meaning.specs.declared.Stepped.{Stepped}
 use Rattle.meaning.specs.declared.Connection.{Connection}
 use Rattle.words.proofs.Settles.{one}
-use Rattle.multiplexer.specs.Promises.{AdmitPromise, OfferPromise, StepPromise, AdmitSoundPromise, OfferSoundPromise, StepSoundPromise}
+use Rattle.multiplexer.specs.Promises.{AdmitPromise, OfferPromise, StepPromise, AdmitSoundPromise, OfferSoundPromise}
+use Rattle.multiplexer.specs.Promises.{StepSoundPromise}
 
 -- `multiplexer::admitting::admit`
 pub admit-settles : (entry : List ℕ) (class longest burst period : ℕ) (r s : Admitted) (after left : List ℕ) →

@@ -25,7 +25,8 @@ unfolding every placedFrom leading
 all-before limit n [] h = refl
 all-before limit n (a ∷ l) h = by (ltb (a .slot) limit) h (all-before limit (suc n) l)
   where
-    by : (b : Bool) → suc (length l) ≤ cond b (suc (leading limit l)) 0 → (length l ≤ leading limit l → every (before limit) (placedFrom (suc n) l) ≡ true)
+    by : (b : Bool) → suc (length l) ≤ cond b (suc (leading limit l)) 0
+        → (length l ≤ leading limit l → every (before limit) (placedFrom (suc n) l) ≡ true)
         → (b && every (before limit) (placedFrom (suc n) l)) ≡ true
     by true k ih = ih (omega arith)
     by false k ih = absurd (let z = k in omega arith)
@@ -35,7 +36,8 @@ unfolding every placedFrom leading
 one-not-before limit n [] h = absurd (let z = h in omega arith)
 one-not-before limit n (a ∷ l) h = by (ltb (a .slot) limit) h (one-not-before limit (suc n) l)
   where
-    by : (b : Bool) → cond b (suc (leading limit l)) 0 < suc (length l) → (leading limit l < length l → every (before limit) (placedFrom (suc n) l) ≡ false)
+    by : (b : Bool) → cond b (suc (leading limit l)) 0 < suc (length l)
+        → (leading limit l < length l → every (before limit) (placedFrom (suc n) l) ≡ false)
         → (b && every (before limit) (placedFrom (suc n) l)) ≡ false
     by true k ih = ih (omega arith)
     by false k ih = refl
@@ -66,8 +68,10 @@ placed-due slot low n (a ∷ l) e = by (placed-due slot (a .slot) (suc n) l) (de
     rest : neverFallingFrom (a .slot) l ≡ true
     rest = and-eq-true-iff (leb low (a .slot)) (neverFallingFrom (a .slot) l) .0 e .1
 
-    by : (neverFallingFrom (a .slot) l ≡ true → keep (λ a. eqb (a .entry .slot) slot) (placedFrom (suc n) l) ≡ placedFrom (suc n + leading slot l) (arrivalsOf slot l))
-        → Dec (a .slot < slot) → Dec (slot < a .slot) → keep (λ a. eqb (a .entry .slot) slot) (placedFrom n (a ∷ l)) ≡ placedFrom (n + leading slot (a ∷ l)) (arrivalsOf slot (a ∷ l))
+    by : (neverFallingFrom (a .slot) l ≡ true → keep (λ a. eqb (a .entry .slot) slot) (placedFrom (suc n) l) ≡
+        placedFrom (suc n + leading slot l) (arrivalsOf slot l))
+        → Dec (a .slot < slot) → Dec (slot < a .slot)
+        → keep (λ a. eqb (a .entry .slot) slot) (placedFrom n (a ∷ l)) ≡ placedFrom (n + leading slot (a ∷ l)) (arrivalsOf slot (a ∷ l))
     by later (yes h) d =
         let k : suc n + leading slot l ≡ n + suc (leading slot l) = omega arith in
         rw (ne-eqb (a .slot) slot (λ q. omega arith), lt-ltb (a .slot) slot h) (later rest ∙ ap (λ m. placedFrom m (arrivalsOf slot l)) k)
@@ -81,4 +85,5 @@ placed-due slot low n (a ∷ l) e = by (placed-due slot (a .slot) (suc n) l) (de
         ap (λ x. record { place = n + 0; entry = a } ∷ x) (later rest ∙ ap (λ x. placedFrom x (arrivalsOf slot l)) k))
     by later (no h) (yes q) =
         let none = none-of slot (a .slot) l (omega arith) rest in
-        rw (ne-eqb (a .slot) slot (λ e. omega arith), le-ltb (a .slot) slot (omega arith)) (later rest ∙ ap (placedFrom (suc n + leading slot l)) none ∙ sym (ap (placedFrom (n + 0)) none))
+        rw (ne-eqb (a .slot) slot (λ e. omega arith), le-ltb (a .slot) slot (omega arith))
+        (later rest ∙ ap (placedFrom (suc n + leading slot l)) none ∙ sym (ap (placedFrom (n + 0)) none))

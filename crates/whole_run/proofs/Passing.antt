@@ -27,7 +27,8 @@ carrying box (suc left) p e h =
     let k : length (onLink (box .link)) ≡ 1 = ap length o in
     sym (ne-eqb (length (waiting box ++ onLink (box .link))) 0 (λ q. omega arith))
 
-pub link-free : (box : Box) (left n : ℕ) (p : Packet) → box .link ≡ linkOf left p → left ≡ 0 → n ≡ length (waiting box) → eqb n 0 ≡ eqb (length (packets box)) 0
+pub link-free : (box : Box) (left n : ℕ) (p : Packet) → box .link ≡ linkOf left p → left ≡ 0 → n ≡ length (waiting box)
+    → eqb n 0 ≡ eqb (length (packets box)) 0
 unfolding packets onLink linkOf
 link-free box left n p e h f =
     let o : onLink (box .link) ≡ [] = ap onLink (e ∙ ap (λ k. linkOf k p) h) in

@@ -19,7 +19,8 @@ use Rattle.lines.specs.Put.{Put}
 use Rattle.lines.proofs.Reached.{put-none, text-one, text-none}
 
 -- The line of a departure.
-pub departed-line : (numbers : List ℕ) (answer : Stepped) (serial connection arrival departure place : ℕ) → answer ≡ Stepped.Departed serial connection arrival departure
+pub departed-line : (numbers : List ℕ) (answer : Stepped) (serial connection arrival departure place : ℕ)
+    → answer ≡ Stepped.Departed serial connection arrival departure
     → place ≡ placeOf 1 numbers connection → textOf (departures numbers answer) ≡ lineText (departLine serial place arrival departure)
 unfolding departures
 departed-line numbers answer serial connection arrival departure place e p =
@@ -27,7 +28,8 @@ departed-line numbers answer serial connection arrival departure place e p =
     ap (λ q. lineText (departLine serial q arrival departure)) (sym p)
 
 -- No line.
-pub no-line : (numbers : List ℕ) (answer : Stepped) (out : List ℕ) (at : ℕ) → departures numbers answer ≡ [] → Put out out at (textOf (departures numbers answer)) at
+pub no-line : (numbers : List ℕ) (answer : Stepped) (out : List ℕ) (at : ℕ) → departures numbers answer ≡ []
+    → Put out out at (textOf (departures numbers answer)) at
 no-line numbers answer out at e = subst (λ l. Put out out at l at) (sym (ap textOf e ∙ text-none)) (put-none out at)
 
 -- One departure or none, whatever the numbers.
@@ -50,7 +52,8 @@ module _ (l : List (Placed Arrival)) (numbers : List ℕ) (box : Box) (departed 
   same-departed = let e : departed ≡ departed + 0 = omega arith in ap (restOf l numbers (moved box)) e
 
   -- after a refused step only its line is left
-  pub after-stop : (answer : Stepped) → stepped answer .number ≢ 0 → afterAnswer l numbers box departed answer ≡ stopLine (stepped answer .number) ∷ []
+  pub after-stop : (answer : Stepped) → stepped answer .number ≢ 0
+      → afterAnswer l numbers box departed answer ≡ stopLine (stepped answer .number) ∷ []
   unfolding stepped refusal afterAnswer
   after-stop Stepped.Idle h = absurd (h refl)
   after-stop (Stepped.Sending serial left) h = absurd (h refl)

@@ -30,7 +30,8 @@ use Rattle.whole_run.specs.Parts.{Admits, Sorted, admissionsOf, connecti
 use Rattle.lines.proofs.Reached.{Reached, reached-start, reached-as, reached-room, reached-next, reached-on, reached-last, text-append}
 
 -- How long the part of a table is.
-part-length : (bytes : List ℕ) (t : Table) (width : ℕ) → t .start + width * t .count ≤ length bytes → length (partOf bytes t width) ≡ width * t .count
+part-length : (bytes : List ℕ) (t : Table) (width : ℕ) → t .start + width * t .count ≤ length bytes
+    → length (partOf bytes t width) ≡ width * t .count
 unfolding partOf
 part-length bytes t width h = rw (le-leb _ _ h, length-take, length-drop) (omega arith)
 
@@ -51,7 +52,8 @@ module _ (bytes : List ℕ) (h : Header) (r : Readable bytes h) where
     pub classes-few : length classes / 4 ≤ 8
     classes-few = let l = r .laid in subst (λ p. length p / 4 ≤ 8) (sym is) (omega (arith, class-count, l .classes-few))
 
-    pub factors-are : (factors : List ℕ) → factors ≡ table factorAt 1 (wordsOf classes) 0 8 → asked (h .interval) (h .cycle) (take (length classes / 4) factors) ≡ contentsOf (wordsOf bytes) h .settings
+    pub factors-are : (factors : List ℕ) → factors ≡ table factorAt 1 (wordsOf classes) 0 8
+        → asked (h .interval) (h .cycle) (take (length classes / 4) factors) ≡ contentsOf (wordsOf bytes) h .settings
     unfolding contentsOf
     factors-are factors e =
         let n : length classes / 4 ≡ h .classes .count = ap (λ p. length p / 4) is ∙ class-count in
@@ -72,7 +74,8 @@ module _ (bytes : List ℕ) (h : Header) (r : Readable bytes h) where
     connections-are : connectionsIn conns ≡ contentsOf (wordsOf bytes) h .connections
     unfolding connectionsIn
     connections-are =
-        ap connectionsIn is ∙ ap (table connectionAt 4 (wordsOf (partOf bytes (h .connections) 16)) 0) connection-count ∙ connections-hold bytes h r
+        ap connectionsIn is ∙ ap (table connectionAt 4 (wordsOf (partOf bytes (h .connections) 16)) 0) connection-count ∙
+        connections-hold bytes h r
 
   -- the arrival table
   module _ (arrivals : List ℕ) (is : arrivals ≡ partOf bytes (h .arrivals) 12) where
@@ -93,47 +96,60 @@ module _ (bytes : List ℕ) (h : Header) (r : Readable bytes h) where
     arrivals-are = ap arrivalsIn is ∙ arrivals-hold bytes h r
 
   -- the run in a new box: the admissions, and the rest
-  module _ (ws : List ℕ) (new : contents ws ≡ newBox (contentsOf (wordsOf bytes) h .settings)) (conns : List ℕ) (is : conns ≡ partOf bytes (h .connections) 16) (out : List ℕ) (room : Room out 0 (textOf (openRun (contentsOf (wordsOf bytes) h)))) where
-    abbrev admissions : AfterAdmissions
-    admissions = admissionsOf conns (contents ws)
+  module _ (ws : List ℕ) (new : contents ws ≡ newBox (contentsOf (wordsOf bytes) h .settings)) (conns : List ℕ)
+      (is : conns ≡ partOf bytes (h .connections) 16) (out : List ℕ)
+      (room : Room out 0 (textOf (openRun (contentsOf (wordsOf bytes) h))))
+    where
+      abbrev admissions : AfterAdmissions
+      admissions = admissionsOf conns (contents ws)
 
-    admissions-same : admissions ≡ admitAll 1 (contentsOf (wordsOf bytes) h .connections) (newBox (contentsOf (wordsOf bytes) h .settings))
-    admissions-same = ap₂ (admitAll 1) (connections-are conns is) new
+      admissions-same : admissions ≡ admitAll 1 (contentsOf (wordsOf bytes) h .connections) (newBox (contentsOf (wordsOf bytes) h .settings))
+      admissions-same = ap₂ (admitAll 1) (connections-are conns is) new
 
-    whole : textOf (openRun (contentsOf (wordsOf bytes) h)) ≡
-        textOf (admissions .lines) ++ textOf (restOf (placedFrom 1 (contentsOf (wordsOf bytes) h .arrivals)) (admissions .numbers) (admissions .box) 0)
-    whole =
-        ap textOf
-        (open-run plan ∙
-        sym (ap (λ (a : AfterAdmissions). a .lines ++ restOf (placedFrom 1 (plan .arrivals)) (a .numbers) (a .box) 0) admissions-same)) ∙
-        text-append (admissions .lines) (restOf (placedFrom 1 (plan .arrivals)) (admissions .numbers) (admissions .box) 0)
+      whole : textOf (openRun (contentsOf (wordsOf bytes) h)) ≡
+          textOf (admissions .lines) ++ textOf
+          (restOf (placedFrom 1 (contentsOf (wordsOf bytes) h .arrivals)) (admissions .numbers) (admissions .box) 0)
+      whole =
+          ap textOf
+          (open-run plan ∙
+          sym (ap (λ (a : AfterAdmissions). a .lines ++ restOf (placedFrom 1 (plan .arrivals)) (a .numbers) (a .box) 0) admissions-same)) ∙
+          text-append (admissions .lines) (restOf (placedFrom 1 (plan .arrivals)) (admissions .numbers) (admissions .box) 0)
 
-    started : Reached out out 0 (textOf (openRun (contentsOf (wordsOf bytes) h)))
-        (textOf (admissions .lines) ++ textOf (restOf (placedFrom 1 (contentsOf (wordsOf bytes) h .arrivals)) (admissions .numbers) (admissions .box) 0)) 0
-    started = reached-as _ whole (reached-start out 0 (textOf (openRun plan)))
+      started : Reached out out 0 (textOf (openRun (contentsOf (wordsOf bytes) h)))
+          (textOf (admissions .lines) ++
+          textOf (restOf (placedFrom 1 (contentsOf (wordsOf bytes) h .arrivals)) (admissions .numbers) (admissions .box) 0)) 0
+      started = reached-as _ whole (reached-start out 0 (textOf (openRun plan)))
 
-    pub admissions-room : Room out 0 (textOf (admissionsOf conns (contents ws) .lines))
-    admissions-room = reached-next (textOf (admissions .lines)) (textOf (restOf (placedFrom 1 (plan .arrivals)) (admissions .numbers) (admissions .box) 0)) room started
+      pub admissions-room : Room out 0 (textOf (admissionsOf conns (contents ws) .lines))
+      admissions-room =
+          reached-next (textOf (admissions .lines))
+          (textOf (restOf (placedFrom 1 (plan .arrivals)) (admissions .numbers) (admissions .box) 0)) room started
 
-    module _ {left numbers printed : List ℕ} {at : ℕ} (a : Admits (admissionsOf conns (contents ws)) (length conns / 16) left numbers out printed at) where
-      pub counter-zero : contents left .counter ≡ 0
-      unfolding newBox
-      counter-zero =
-          ap (λ (b : Box). b .counter) (a .stand-for) ∙ admissions-weight 1 (connectionsIn conns) (contents ws) .0 ∙ ap (λ (b : Box). b .counter) new
+      module _ {left numbers printed : List ℕ} {at : ℕ}
+          (a : Admits (admissionsOf conns (contents ws)) (length conns / 16) left numbers out printed at)
+        where
+          pub counter-zero : contents left .counter ≡ 0
+          unfolding newBox
+          counter-zero =
+              ap (λ (b : Box). b .counter) (a .stand-for) ∙ admissions-weight 1 (connectionsIn conns) (contents ws) .0 ∙
+              ap (λ (b : Box). b .counter) new
 
-      module _ (arrivals : List ℕ) (arrivals-is : arrivals ≡ partOf bytes (h .arrivals) 12) where
-        rest-reached : Reached out printed 0 (textOf (openRun (contentsOf (wordsOf bytes) h))) (textOf (restOfRun (take (length conns / 16) numbers) arrivals (contents left))) at
-        rest-reached =
-            reached-as _
-            (ap textOf
-            (ap (λ l. restOf (placedFrom 1 l) (admissions .numbers) (admissions .box) 0) (sym (arrivals-are arrivals arrivals-is)) ∙
-            ap₂ (λ n (b : Box). restOf (placedFrom 1 (arrivalsIn arrivals)) n b 0) (sym (a .numbers-are)) (sym (a .stand-for))))
-            (reached-on (textOf (admissions .lines)) (textOf (restOf (placedFrom 1 (plan .arrivals)) (admissions .numbers) (admissions .box) 0)) room started (a .text))
+          module _ (arrivals : List ℕ) (arrivals-is : arrivals ≡ partOf bytes (h .arrivals) 12) where
+            rest-reached : Reached out printed 0 (textOf (openRun (contentsOf (wordsOf bytes) h)))
+                (textOf (restOfRun (take (length conns / 16) numbers) arrivals (contents left))) at
+            rest-reached =
+                reached-as _
+                (ap textOf
+                (ap (λ l. restOf (placedFrom 1 l) (admissions .numbers) (admissions .box) 0) (sym (arrivals-are arrivals arrivals-is)) ∙
+                ap₂ (λ n (b : Box). restOf (placedFrom 1 (arrivalsIn arrivals)) n b 0) (sym (a .numbers-are)) (sym (a .stand-for))))
+                (reached-on (textOf (admissions .lines))
+                (textOf (restOf (placedFrom 1 (plan .arrivals)) (admissions .numbers) (admissions .box) 0)) room started (a .text))
 
-        pub rest-room : Room printed at (textOf (restOfRun (take (length conns / 16) numbers) arrivals (contents left)))
-        rest-room = reached-room room rest-reached
+            pub rest-room : Room printed at (textOf (restOfRun (take (length conns / 16) numbers) arrivals (contents left)))
+            rest-room = reached-room room rest-reached
 
-        pub rest-put :
-            {last : List ℕ} {next : ℕ} → Put printed last at (textOf (restOfRun (take (length conns / 16) numbers) arrivals (contents left))) next
-            → Put out last 0 (textOf (openRun (contentsOf (wordsOf bytes) h))) next
-        rest-put p = reached-last room rest-reached p
+            pub rest-put :
+                {last : List ℕ} {next : ℕ}
+                → Put printed last at (textOf (restOfRun (take (length conns / 16) numbers) arrivals (contents left))) next
+                → Put out last 0 (textOf (openRun (contentsOf (wordsOf bytes) h))) next
+            rest-put p = reached-last room rest-reached p

@@ -91,7 +91,8 @@ pub record PassesIdle (bytes : List ℕ) (passed : ℕ) (box : Box) (ws : List �
   pub still-sound : soundWords ws ≡ true
   pub walked : Walked bytes (contents ws) passed
   pub later : box .counter ≤ contents ws .counter
-  pub same-rest : (numbers : List ℕ) (departed : ℕ) → restOf (arrivalsPlaced bytes) numbers box departed ≡ restOf (arrivalsPlaced bytes) numbers (contents ws) departed
+  pub same-rest : (numbers : List ℕ) (departed : ℕ)
+      → restOf (arrivalsPlaced bytes) numbers box departed ≡ restOf (arrivalsPlaced bytes) numbers (contents ws) departed
   pub no-more : potential (arrivalsPlaced bytes) (contents ws) ≤ potential (arrivalsPlaced bytes) box
 
 -- The rest of the run from this box on, with nothing departed before.

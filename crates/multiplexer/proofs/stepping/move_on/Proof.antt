@@ -27,9 +27,11 @@ send-unit-requires c κs = search needs
 
 raise-counter-requires : tie.Need-raise-counter-requires
 raise-counter-requires c κs =
-    let s = c .before .before .before .before .before .before .before .before .before .before .before .before in
-    let l = c .before .before .before .before .before .before .before .load-link in
-    let u = c .before .before .before .send-unit in
+    let after-send-unit = c .before .before .before in
+    let after-load-link = after-send-unit .before .before .before .before in
+    let s = after-load-link .before .before .before .before .before in
+    let l = after-load-link .load-link in
+    let u = after-send-unit .send-unit in
     raise-ready (s .args .ws .now) (l .last .0) (u .last .0) (l .ensures) (u .ensures .1) (s .pre .1 .0) (s .pre .1 .1)
 
 same-length : tie.Need-same-length
@@ -37,12 +39,17 @@ same-length c = search needs
 
 returns : tie.Need-returns
 returns c =
-    let s = c .before .before .before .before .before .before .before .before .before .before .before .before .before .before .before in
-    let l = c .before .before .before .before .before .before .before .before .before .before .load-link in
-    let u = c .before .before .before .before .before .before .send-unit in
-    let w = c .before .before .raise-counter in
-    let n = c .before .before .before .before .before .before .before .before .before .before .before .before .counter-of in (
-      u .ensures .0 ∙ ap₂ sentAnswer (add-one (n .result) ∙ ap suc (n .ensures .0)) (link-same (s .args .ws .now) (l .last .0) (u .last .0) (l .ensures) (u .ensures .1)),
+    let after-raise-counter = c .before .before in
+    let after-send-unit = after-raise-counter .before .before .before .before in
+    let after-load-link = after-send-unit .before .before .before .before in
+    let after-counter-of = after-load-link .before .before in
+    let s = after-counter-of .before .before .before in
+    let l = after-load-link .load-link in
+    let u = after-send-unit .send-unit in
+    let w = after-raise-counter .raise-counter in
+    let n = after-counter-of .counter-of in (
+      u .ensures .0 ∙ ap₂ sentAnswer (add-one (n .result) ∙ ap suc (n .ensures .0))
+          (link-same (s .args .ws .now) (l .last .0) (u .last .0) (l .ensures) (u .ensures .1)),
       whole-step (s .args .ws .now) (l .last .0) (u .last .0) (l .ensures) (u .ensures .1) (w .last .0) (w .ensures),
     )
 
