@@ -33,12 +33,12 @@ more {n} {l} h f = record { fits = at }
     at zero = h
     at (suc i) = f .fits i
 
--- a refusal's fields are 0
+-- The fields of a refusal, which are 0, fit their words.
 zeros : (n : ℕ) → FitWords (replicate n 0)
 zeros zero = none
 zeros (suc n) = more (omega arith) (zeros n)
 
--- the counts and offsets of a plan that was read
+-- The counts and offsets of a plan that was read fit their words.
 pub read-fits : (bytes : List ℕ) (r : PlanRead) → r ≡ readingAnswer bytes → FitWords (drop 2 (planRead r .fields))
 unfolding planRead refusal headerFields
 read-fits bytes (PlanRead.Good h) e =
@@ -46,7 +46,7 @@ read-fits bytes (PlanRead.Good h) e =
     more (omega arith) (more (omega arith) (more (omega arith) (more (omega arith) (more (omega arith) (more (omega arith) none)))))
 read-fits bytes (PlanRead.Refused why) e = zeros 6
 
--- the size of a plan that was written
+-- The size of a plan that was written fits a word.
 pub write-fits : (l : Lent) (buf : List ℕ) (r : PlanWritten) → r ≡ writingAnswer l (length buf) → FitWords (planWritten r .fields)
 unfolding planWritten refusal lentWrong lengthsWrong
 write-fits l buf (PlanWritten.Written size) e =
@@ -57,7 +57,7 @@ write-fits l buf (PlanWritten.Written size) e =
     more (omega arith) none
 write-fits l buf (PlanWritten.Refused why) e = zeros 1
 
--- the size of a text that was printed
+-- The size of a text that was printed fits a word.
 pub run-fits-word : (plan : List ℕ) (room : ℕ) (r : Printed) → r ≡ printingAnswer plan room → FitWords (printed r .fields)
 unfolding printed refusal printingAnswer
 run-fits-word plan room r e = subst (λ (a : Printed). FitWords (printed a .fields)) (sym e) (go (ltb room textMost))

@@ -13,7 +13,7 @@ use Rattle.plan.proofs.Stretch.{stretch-past}
 use Rattle.cabinet.specs.Places.{stretchFirst, stretchSize}
 
 module _ (bytes : List ℕ) (from slot : ℕ) where
-  -- a stretch that is not empty lies in the table
+  -- A stretch that is not empty lies in the table.
   pub stretch-lies :
       0 < stretchSize bytes from slot → 12 * stretchStart bytes from slot + stretchSize bytes from slot ≤ length bytes
   unfolding stretchSize stretchStart stretchEnd
@@ -28,16 +28,17 @@ module _ (bytes : List ℕ) (from slot : ℕ) where
             absurd (omega arith)
       ]
 
-  -- its first byte
+  -- The first byte of a stretch that is not empty is where it starts.
   pub first-of-some : 0 < stretchSize bytes from slot → 12 * stretchStart bytes from slot ≡ stretchFirst bytes from slot
   unfolding stretchFirst
   first-of-some some = rw (ne-eqb (stretchSize bytes from slot) 0 (λ none. omega arith))
 
+  -- The first byte of an empty stretch is given as 0.
   pub first-of-none : stretchSize bytes from slot ≡ 0 → 0 ≡ stretchFirst bytes from slot
   unfolding stretchFirst
   first-of-none none = rw (eq-eqb (stretchSize bytes from slot) 0 none)
 
-  -- so many bytes from where the stretch starts are the stretch
+  -- So many bytes from where the stretch starts are the stretch.
   whole : take (stretchSize bytes from slot) (drop (12 * stretchStart bytes from slot) bytes) ≡ stretchOf bytes from slot
   unfolding stretchSize stretchOf
   whole =
@@ -45,7 +46,7 @@ module _ (bytes : List ℕ) (from slot : ℕ) where
       let n = 12 * (stretchEnd bytes from slot - stretchStart bytes from slot) in
       sym (take-take (length (take n rest)) n rest (omega (arith, length-take n rest))) ∙ take-length (take n rest)
 
-  -- the bytes at the place that is handed out are the stretch, and they lie in the table
+  -- The bytes at the place that is handed out are the stretch, and they lie in the table.
   pub stretch-there :
       (take (stretchSize bytes from slot) (drop (stretchFirst bytes from slot) bytes) ≡ stretchOf bytes from slot) ×
       (stretchFirst bytes from slot + stretchSize bytes from slot ≤ length bytes)

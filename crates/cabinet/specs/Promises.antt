@@ -8,7 +8,8 @@ use lib.ListN.{length}
 use Rattle.meaning.specs.Answers
 use Rattle.meaning.specs.declared.Refusal.{Refusal}
 use Rattle.meaning.specs.declared.Connection.{Connection}
-use Rattle.meaning.specs.Plan.{Lent, wordsOf, factorAt, connectionAt, arrivalAt, connectionWords, arrivalWords, readingAnswer, writingAnswer}
+use Rattle.meaning.specs.Plan.{Lent, wordsOf, factorAt, connectionAt, arrivalAt, connectionWords, arrivalWords, readingAnswer}
+use Rattle.meaning.specs.Plan.{writingAnswer}
 use Rattle.words.specs.Places.{boxWords}
 use Rattle.tables.specs.Opening
 use Rattle.words.specs.Sound.{soundWords}

@@ -57,7 +57,8 @@ pub extern "C" fn zeppilorn_admit(
     period: u32,
     fields: &mut [u32; 2],
 ) -> u32
-    ensures { λ r. ⌜ AdmitPromise (now (words .entry)) (record { class = class; longest = longest; burst = burst; period = period }) r (now (fields .exit)) (now (words .exit)) ⌝ }
+    ensures { λ r. ⌜ AdmitPromise (now (words .entry)) (record { class = class; longest = longest; burst = burst; period = period }) r
+        (now (fields .exit)) (now (words .exit)) ⌝ }
 {
     let told = tell_admitted(admit(words, class, longest, burst, period));
     *fields = [told[1], told[2]];

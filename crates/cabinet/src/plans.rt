@@ -96,7 +96,8 @@ pub extern "C" fn zeppilorn_write_plan(
     plan: &mut [u8],
     fields: &mut [u32; 1],
 ) -> u32
-    ensures { λ r. ⌜ WritePromise (lent interval cycle (now (factors .entry)) (now (connections .entry)) (now (arrivals .entry))) (now (plan .entry)) r (now (fields .exit)) (now (plan .exit)) ⌝ }
+    ensures { λ r. ⌜ WritePromise (lent interval cycle (now (factors .entry)) (now (connections .entry)) (now (arrivals .entry)))
+        (now (plan .entry)) r (now (fields .exit)) (now (plan .exit)) ⌝ }
 {
     let told = tell_written(write(interval, cycle, factors, connections, arrivals, plan));
     *fields = [told[1]];

@@ -21,13 +21,16 @@ use Rattle.meaning.specs.Admission.{term, sumAt, conditionAt, HoldsWithoutEnd, 
 use Rattle.meaning.specs.Box.{Box, connections, sound}
 use Rattle.meaning.specs.Calls.{withNewcomer, admissionAnswer}
 use Rattle.meaning.proofs.Facts.{ConnectionFacts, connection-facts, settings-facts, sound-facts, SettingsFacts}
-use Rattle.guarantees.proofs.Saying.{AdmissionRefused, admission-unsound, off-range, table-full, rate-exceeded, fails-first-at, AdmissionSays, admission-says}
+use Rattle.guarantees.proofs.Saying.{AdmissionRefused, admission-unsound, off-range, table-full, rate-exceeded, fails-first-at}
+use Rattle.guarantees.proofs.Saying.{AdmissionSays, admission-says}
 use Rattle.guarantees.proofs.Classes.{bound-least, bound-apart}
 use Rattle.guarantees.proofs.WithoutEnd.{condition-test, all-slots-follow, some-slot-fails}
 
 -- The connections that stand in a sound box keep the table of numbers.
 pub standing-facts : (box : Box) → sound box ≡ true → (c : Connection) → List·Memᴰ c (connections box) → ConnectionFacts (box .settings) c
-standing-facts box s c m = connection-facts (box .settings) c (every-at (connectionAllowed (box .settings)) (connections box) (sound-facts box s .connections-allowed) m)
+standing-facts box s c m =
+    connection-facts (box .settings) c
+    (every-at (connectionAllowed (box .settings)) (connections box) (sound-facts box s .connections-allowed) m)
 
 -- So do the connections of the set with the newcomer.
 pub newcomer-facts : (box : Box) → sound box ≡ true → (c : Connection) → connectionAllowed (box .settings) c ≡ true →
@@ -54,14 +57,16 @@ module _ (box : Box) (c : Connection) where
   search-fails t q = first-failing-fails _ _ t q .1
 
   -- "the t given with 6 is the least that fails".
-  pub least-that-fails : (t : ℕ) → admissionAnswer box c ≡ Admitted.Refused (Refusal.ConditionFails t) → Least (conditionAt (box .settings) (withNewcomer box c)) 0 t
+  pub least-that-fails : (t : ℕ) → admissionAnswer box c ≡ Admitted.Refused (Refusal.ConditionFails t)
+      → Least (conditionAt (box .settings) (withNewcomer box c)) 0 t
   least-that-fails t e = go (rw e at (admission-says box c))
     where
       go : AdmissionRefused box c (Refusal.ConditionFails t) → Least (conditionAt (box .settings) (withNewcomer box c)) 0 t
       go (fails-first-at s a f r t q) = search-fails t q
 
   -- With answer 5 some t fails too.
-  pub rate-fails-somewhere : admissionAnswer box c ≡ Admitted.Refused Refusal.RateExceeded → (t : ℕ) × (conditionAt (box .settings) (withNewcomer box c) t ≡ false)
+  pub rate-fails-somewhere : admissionAnswer box c ≡ Admitted.Refused Refusal.RateExceeded
+      → (t : ℕ) × (conditionAt (box .settings) (withNewcomer box c) t ≡ false)
   rate-fails-somewhere e = go (rw e at (admission-says box c))
     where
       go : AdmissionRefused box c Refusal.RateExceeded → (t : ℕ) × (conditionAt (box .settings) (withNewcomer box c) t ≡ false)
@@ -88,7 +93,8 @@ module _ (box : Box) (c : Connection) where
       back h (Admitted.Taken n) e says = ap Admitted.Taken (says .5)
 
 -- (11) and (12) hold at 0 for every set that keeps the table of numbers.
-holds-at-zero : (set : Settings) → SettingsFacts set → (cs : List Connection) → ((c : Connection) → List·Memᴰ c cs → ConnectionFacts set c) →
+holds-at-zero : (set : Settings) → SettingsFacts set → (cs : List Connection)
+    → ((c : Connection) → List·Memᴰ c cs → ConnectionFacts set c) →
     conditionAt set cs 0 ≡ true
 holds-at-zero set f cs facts =
     condition-test set cs 0 (record {
@@ -117,6 +123,7 @@ fails-after-zero box c zero e = absurd (go (rw e at (admission-says box c)))
     go : AdmissionRefused box c (Refusal.ConditionFails 0) → ⊥
     go (fails-first-at s a f r t q) =
         let set = box .settings in
-        let z = holds-at-zero set (settings-facts set (sound-facts box s .settings-allowed)) (withNewcomer box c) (newcomer-facts box s c a) in
+        let z = holds-at-zero set (settings-facts set (sound-facts box s .settings-allowed)) (withNewcomer box c)
+        (newcomer-facts box s c a) in
         true≢false (sym z ∙ least-that-fails box c 0 e .fails)
 fails-after-zero box c (suc t) e = omega arith

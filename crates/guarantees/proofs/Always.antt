@@ -13,7 +13,8 @@ use Rattle.guarantees.proofs.Known.{Known, known-new, known-moves}
 use Rattle.guarantees.proofs.Scheduled.{Scheduled, scheduled-new, scheduled-moves}
 use Rattle.guarantees.proofs.Metered.{Metered, metered-new, metered-moves, metered-conforms}
 use Rattle.guarantees.proofs.OnTime.{OnTime, on-time-new, on-time-moves}
-use Rattle.guarantees.proofs.Once.{Once, once-new, once-moves, Numbered, numbered-new, numbered-moves, Counted, counted-new, counted-moves}
+use Rattle.guarantees.proofs.Once.{Once, once-new, once-moves, Numbered, numbered-new, numbered-moves, Counted, counted-new}
+use Rattle.guarantees.proofs.Once.{counted-moves}
 use Rattle.guarantees.proofs.Order.{Ordered, ordered-new, ordered-moves}
 
 -- What holds of a box, with H accepted and G departed.
@@ -45,7 +46,8 @@ always-moves box next H H′ G G′ a m =
     }
 
 -- It holds after every run.
-pub always : (set : Settings) → settingsAllowed set ≡ true → (calls : List Call) → Always (boxOf set calls) (acceptedOf set calls) (departedOf set calls)
+pub always : (set : Settings) → settingsAllowed set ≡ true → (calls : List Call)
+    → Always (boxOf set calls) (acceptedOf set calls) (departedOf set calls)
 always set e calls =
     run-keeps Always always-moves (newBox set) [] []
     (record {

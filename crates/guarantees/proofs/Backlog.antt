@@ -105,7 +105,9 @@ module _ (q : Packet → Bool) where
         begun = b .begun;
         account = (let s = put .sums (λ p. given (q p) (p .units)) in let g = given-false (p .units) e in
             let a = b .account in let m = arrived-more (b .since) H p in omega arith);
-        waits = λ x m h. ⊎-elim (λ (k : x ≡ p). absurd (true≢false (sym h ∙ ap q k ∙ e))) (λ (k : List·Memᴰ x W). b .waits x k h) (put .parts x m);
+        waits =
+            λ x m h. ⊎-elim (λ (k : x ≡ p). absurd (true≢false (sym h ∙ ap q k ∙ e))) (λ (k : List·Memᴰ x W). b .waits x k h)
+            (put .parts x m);
         carried = b .carried;
         way = way-more (b .since) (b .rest) H p (b .way);
       })
@@ -123,7 +125,8 @@ module _ (q : Packet → Bool) where
             let s = put .sums (λ p. given (q p) (p .units)) in
             let g = given-true (p .units) e in
             let k = b .begun in
-            let t = given-true (p .units) (and-eq-true-iff (q p) (leb (b .since) (p .arrival)) .1 (e, le-leb (b .since) (p .arrival) (omega arith))) in
+            let t = given-true (p .units)
+            (and-eq-true-iff (q p) (leb (b .since) (p .arrival)) .1 (e, le-leb (b .since) (p .arrival) (omega arith))) in
             let a = b .account in
             let m = arrived-more (b .since) H p in
             omega arith;
@@ -157,7 +160,8 @@ module _ (q : Packet → Bool) where
           })
 
   -- An accepted packet of q while nothing of q was in the box: the link is busy with it from this slot on.
-  accept-first : (slot : ℕ) (W W′ : List Packet) (link : Link) (H : List Packet) (p : Packet) → Put p W W′ → q p ≡ true → p .arrival ≡ slot →
+  accept-first : (slot : ℕ) (W W′ : List Packet) (link : Link) (H : List Packet) (p : Packet) → Put p W W′ → q p ≡ true
+      → p .arrival ≡ slot →
       ((x : Packet) → List·Memᴰ x W → 1 ≤ x .units) → ((v : Packet) (left : ℕ) → link ≡ carries v left → OnLink slot H v left) →
       waitingWork q W + linkWork q link ≡ 0 → Busy q slot W′ link (H ++ (p ∷ []))
   accept-first slot W W′ link H p put e now units on z =
@@ -187,7 +191,8 @@ module _ (q : Packet → Bool) where
   pub accept-keeps : (slot : ℕ) (W W′ : List Packet) (link : Link) (H : List Packet) (p : Packet) → Put p W W′ → p .arrival ≡ slot →
       ((x : Packet) → List·Memᴰ x W → 1 ≤ x .units) → ((v : Packet) (left : ℕ) → link ≡ carries v left → OnLink slot H v left) →
       Backlog q slot W link H → Backlog q slot W′ link (H ++ (p ∷ []))
-  accept-keeps slot W W′ link H p put now units on b = ⊎-elim (λ e. inr (mine e b)) (λ e. accept-other slot W W′ link H p put e b) (bool-cases (q p))
+  accept-keeps slot W W′ link H p put now units on b =
+      ⊎-elim (λ e. inr (mine e b)) (λ e. accept-other slot W W′ link H p put e b) (bool-cases (q p))
     where
       mine : q p ≡ true → Backlog q slot W link H → Busy q slot W′ link (H ++ (p ∷ []))
       mine e (inl z) = accept-first slot W W′ link H p put e now units on z

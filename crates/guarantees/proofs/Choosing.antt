@@ -2,7 +2,8 @@
 use Prim.Native.Nat.{ℕ, zero, suc, _+_, _/_, _≤_, _<_}
 use mathlib.Core.Path.{_≡_, refl, _∙_, ap}
 use mathlib.Core.Bool.{Bool, true, _&&_, and-eq-true-iff}
-use mathlib.Core.List.{List, [], _∷_, _++_, map, flatten, List·Memᴰ, List·Memᴰ·head, List·Memᴰ·tail, List·Memᴰ·not-nil, List·Memᴰ·cases-cons, List·Memᴰ·append-cases, Memᴰ·map}
+use mathlib.Core.List.{List, [], _∷_, _++_, map, flatten, List·Memᴰ, List·Memᴰ·head, List·Memᴰ·tail, List·Memᴰ·not-nil}
+use mathlib.Core.List.{List·Memᴰ·cases-cons, List·Memᴰ·append-cases, Memᴰ·map}
 use mathlib.Core.Logic.{_⊎_, inl, inr, ⊎-elim}
 use mathlib.Core.Option.{some}
 use lib.Dec.{ltb, eqb}
@@ -22,7 +23,8 @@ use Rattle.meaning.proofs.QueueLaws.{joined-member, turned-member}
 
 module _ {A : Type 0} where
   -- What joins a tail is added to every sum.
-  join-sum : (f : A → ℕ) (k : ℕ) (p : A) (qs : List (List A)) → k < length qs → sumOf f (flatten (joinTail k p qs)) ≡ f p + sumOf f (flatten qs)
+  join-sum : (f : A → ℕ) (k : ℕ) (p : A) (qs : List (List A)) → k < length qs
+      → sumOf f (flatten (joinTail k p qs)) ≡ f p + sumOf f (flatten qs)
   unfolding joinTail flatten
   join-sum f k p [] h = absurd (omega arith)
   join-sum f zero p (q ∷ qs) h =
@@ -35,7 +37,8 @@ module _ {A : Type 0} where
   join-put k p qs h = record { sums = λ f. join-sum f k p qs h; parts = λ x m. joined-member k p qs m }
 
   -- The lowest head is a part of every sum.
-  head-sum : (f : A → ℕ) (p : A) (qs : List (List A)) → lowestHead qs ≡ some p → sumOf f (flatten qs) ≡ f p + sumOf f (flatten (withoutLowestHead qs))
+  head-sum : (f : A → ℕ) (p : A) (qs : List (List A)) → lowestHead qs ≡ some p
+      → sumOf f (flatten qs) ≡ f p + sumOf f (flatten (withoutLowestHead qs))
   unfolding lowestHead withoutLowestHead flatten sumOf
   head-sum f p [] e = absurd (let z : _≡_ {A = ℕ} 0 1 = cc in omega arith)
   head-sum f p ([] ∷ qs) e = head-sum f p qs e
@@ -65,7 +68,7 @@ module _ {A : Type 0} where
   pub turned-same : (qs : List (List A)) → Same (flatten qs) (flatten (turned qs))
   turned-same qs = record { sums = λ f. turned-sum f qs; parts = λ x m. turned-member qs m }
 
--- x goes before y: it has the lower rank, or the same rank and the lower serial.
+-- Packet x goes before y: it has the lower rank, or the same rank and the lower serial.
 abbrev pub Before : Box → Packet → Packet → Type 0
 Before box x y = (rankIn box x < rankIn box y) ⊎ ((rankIn box x ≡ rankIn box y) × (x .serial < y .serial))
 
@@ -76,7 +79,8 @@ rising-member low [] e m = absurd (List·Memᴰ·not-nil m)
 rising-member low (k ∷ ns) e {n} m =
     let p = and-eq-true-iff (ltb low k) (risingAbove k ns) .0 e in
     let l = ltb-true low k (p .0) in
-    ⊎-elim (λ (h : n ≡ k). omega arith) (λ (t : List·Memᴰ n ns). let r = rising-member k ns (p .1) t in omega arith) (List·Memᴰ·cases-cons m)
+    ⊎-elim (λ (h : n ≡ k). omega arith) (λ (t : List·Memᴰ n ns). let r = rising-member k ns (p .1) t in omega arith)
+    (List·Memᴰ·cases-cons m)
 
 module _ (box : Box) where
   -- The packets of the queues from a tag on have at least the rank of that tag.
@@ -87,7 +91,8 @@ module _ (box : Box) where
   rank-least tag (q ∷ qs) e x m =
       let here : Packet → Bool = λ p. eqb (rankIn box p) (box .counter / box .settings .interval + tag) in
       let h = and-eq-true-iff (every here q) (inTheirQueues box (suc tag) qs) .0 e in
-      ⊎-elim (λ (n : List·Memᴰ x q). let r = eqb-true (rankIn box x) (box .counter / box .settings .interval + tag) (every-at here q (h .0) n) in omega arith)
+      ⊎-elim (λ (n : List·Memᴰ x q). let r = eqb-true (rankIn box x)
+      (box .counter / box .settings .interval + tag) (every-at here q (h .0) n) in omega arith)
       (λ (n : List·Memᴰ x (flatten qs)). let r = rank-least (suc tag) qs (h .1) x n in omega arith)
       (List·Memᴰ·append-cases q m)
 
@@ -103,12 +108,14 @@ module _ (box : Box) where
       let h = and-eq-true-iff (every here (y ∷ q)) (inTheirQueues box (suc tag) qs) .0 e in
       let z : p ≡ y = cc in
       let serials : List ℕ = map (λ (p : Packet). p .serial) q in
-      let up = and-eq-true-iff (ltb 0 (y .serial) && risingAbove (y .serial) serials) (every (λ q. risingAbove 0 (map (λ p. p .serial) q)) qs) .0 r in
+      let up = and-eq-true-iff (ltb 0 (y .serial) && risingAbove (y .serial) serials)
+      (every (λ q. risingAbove 0 (map (λ p. p .serial) q)) qs) .0 r in
       let rise = and-eq-true-iff (ltb 0 (y .serial)) (risingAbove (y .serial) serials) .0 (up .0) in
       let a = eqb-true (rankIn box y) (box .counter / box .settings .interval + tag) (every-at here (y ∷ q) (h .0) (List·Memᴰ·head refl)) in
       let same-queue : List·Memᴰ x q → Before box y x =
       λ n. inr (
-        let b = eqb-true (rankIn box x) (box .counter / box .settings .interval + tag) (every-at here (y ∷ q) (h .0) (List·Memᴰ·tail n)) in omega arith,
+        let b = eqb-true (rankIn box x)
+            (box .counter / box .settings .interval + tag) (every-at here (y ∷ q) (h .0) (List·Memᴰ·tail n)) in omega arith,
         rising-member (y .serial) serials (rise .1) (Memᴰ·map (λ (p : Packet). p .serial) n),
       ) in
       let later-queue : List·Memᴰ x (flatten qs) → Before box y x =

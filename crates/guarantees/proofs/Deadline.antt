@@ -18,7 +18,8 @@ use Rattle.guarantees.proofs.Classes.{factor-rises, bound-apart}
 use Rattle.guarantees.proofs.Backlog.{waitingWork, linkWork, arrivedSince, InTheWay, Busy, Backlog}
 use Rattle.guarantees.proofs.Known.{Known}
 use Rattle.guarantees.proofs.Scheduled.{Scheduled}
-use Rattle.guarantees.proofs.Limits.{upTo, up-to-facts, up-to-closed, up-to-self, beyond-rank, not-above, below, beyond, earlier-interval, interval-of}
+use Rattle.guarantees.proofs.Limits.{upTo, up-to-facts, up-to-closed, up-to-self, beyond-rank, not-above, below, beyond}
+use Rattle.guarantees.proofs.Limits.{earlier-interval, interval-of}
 use Rattle.guarantees.proofs.Ahead.{KeepsEnvelope, classOf, KeepsLimits}
 use Rattle.guarantees.proofs.Enough.{connection-of, none-in-the-way, far-in-the-way, near-in-the-way}
 
@@ -35,7 +36,7 @@ module _ (box : Box) (H : List Packet) (k : Known box H) (conforming : KeepsEnve
   abbrev d : Packet → ℕ
   d x = bound (box .settings) (classOf box x)
 
-  -- p arrived in that interval.
+  -- Packet p arrived in that interval.
   starts : (start ≤ p .arrival) × (p .arrival < start + D)
   unfolding start
   starts = interval-of (box .settings .interval) (k .settings-ok .interval-least) (p .arrival)
@@ -44,7 +45,8 @@ module _ (box : Box) (H : List Packet) (k : Known box H) (conforming : KeepsEnve
   limit-any : (x : Packet) → List·Memᴰ x H → upTo box p x ≡ true → x .arrival + d x + 1 ≤ start + d p + D
   unfolding start bound rankIn rank
   limit-any x n e =
-      let r : x .arrival / box .settings .interval + factor (box .settings) (classOf box x) ≤ p .arrival / box .settings .interval + factor (box .settings) (classOf box p) =
+      let r : x .arrival / box .settings .interval + factor (box .settings) (classOf box x) ≤ p .arrival / box .settings .interval +
+      factor (box .settings) (classOf box p) =
       ⊎-elim (λ l. omega arith) (λ l. let q = l .0 in omega arith) (up-to-facts box p x e) in
       not-above (box .settings .interval) (k .settings-ok .interval-least) (x .arrival) (p .arrival) _ _ r
 
@@ -53,11 +55,13 @@ module _ (box : Box) (H : List Packet) (k : Known box H) (conforming : KeepsEnve
   unfolding rankIn rank
   limit-same x n e c =
       let f = ap (factor (box .settings)) c in
-      ⊎-elim (λ l. let s = earlier-interval (box .settings .interval) (k .settings-ok .interval-least) (x .arrival) (p .arrival) (omega arith) in omega arith)
+      ⊎-elim (λ l. let s = earlier-interval (box .settings .interval) (k .settings-ok .interval-least) (x .arrival) (p .arrival)
+      (omega arith) in omega arith)
       (λ l. k .arrivals-rise x p n m (l .1)) (up-to-facts box p x e)
 
   -- A packet up to p of a lower class.
-  limit-below : (x : Packet) → List·Memᴰ x H → upTo box p x ≡ true → factor (box .settings) (classOf box x) < factor (box .settings) (classOf box p) →
+  limit-below : (x : Packet) → List·Memᴰ x H → upTo box p x ≡ true
+      → factor (box .settings) (classOf box x) < factor (box .settings) (classOf box p) →
       x .arrival + d x + 1 ≤ start + d p
   unfolding start bound rankIn rank
   limit-below x n e c =
@@ -68,7 +72,8 @@ module _ (box : Box) (H : List Packet) (k : Known box H) (conforming : KeepsEnve
       (up-to-facts box p x e)
 
   -- A packet that is not up to p, accepted before slot u.
-  limit-beyond : (u : ℕ) → u ≤ p .arrival → (v : Packet) → List·Memᴰ v H → upTo box p v ≡ false → v .arrival < u → start + d p + D + 1 ≤ u + d v
+  limit-beyond : (u : ℕ) → u ≤ p .arrival → (v : Packet) → List·Memᴰ v H → upTo box p v ≡ false → v .arrival < u
+      → start + d p + D + 1 ≤ u + d v
   unfolding start bound rankIn rank
   limit-beyond u l v n e b =
       let s : v .serial < p .serial = elim (decLt (v .serial) (p .serial)) [
@@ -114,7 +119,8 @@ module _ (box : Box) (H : List Packet) (k : Known box H) (conforming : KeepsEnve
             let s = sum in
             let e : d p ≡ bound (box .settings) 1 = ap (bound (box .settings)) one in
             elim (decLt (T + D) (d (v .packet))) [
-              | yes far ↦ far-in-the-way box H k conforming (upTo box p) u rest T limits after (v .packet) (v .accepted) (v .longer) (omega arith)
+              | yes far ↦ far-in-the-way box H k conforming (upTo box p) u rest T limits after (v .packet) (v .accepted) (v .longer)
+                  (omega arith)
                   far
               | no near ↦ near-in-the-way box H k conforming (upTo box p) u rest T limits after (v .packet) (v .accepted) (v .longer)
                   (λ c. let w : d (v .packet) ≡ bound (box .settings) 1 = ap (bound (box .settings)) c in absurd (omega arith))
@@ -186,7 +192,8 @@ in-box-works q box H k p e (inr l) =
     omega arith
 
 -- A packet in the box is not at its bound.
-pub not-at-bound : (box : Box) (H : List Packet) → Known box H → KeepsEnvelope envelope box H → Scheduled box H → (p : Packet) → List·Memᴰ p H →
+pub not-at-bound : (box : Box) (H : List Packet) → Known box H → KeepsEnvelope envelope box H → Scheduled box H → (p : Packet)
+    → List·Memᴰ p H →
     InBox box p →
     box .counter ≡ p .arrival + bound (box .settings) (classOf box p) → ⊥
 not-at-bound box H k conforming s p m inside now = go inside (s (upTo box p) (up-to-closed box H p))
@@ -200,4 +207,5 @@ not-at-bound box H k conforming s p m inside now = go inside (s (upTo box p) (up
 
     go : InBox box p → Backlog (upTo box p) (box .counter) (waiting box) (box .link) H → ⊥
     go i (inl z) = let w = works in omega arith
-    go i (inr b) = never-at-bound box H k conforming p m (b .since) (b .rest) (early i b) (b .way) (let a = b .account in let w = works in omega arith)
+    go i (inr b) =
+        never-at-bound box H k conforming p m (b .since) (b .rest) (early i b) (b .way) (let a = b .account in let w = works in omega arith)

@@ -34,7 +34,8 @@ connection-member box n h l =
     getD-member (map (λ (s : Standing). s .asked) (box .standing)) (n - 1) noConnection (rw length-map (omega arith))
 
 -- It keeps the table of numbers.
-pub connection-kept : (box : Box) → sound box ≡ true → (n : ℕ) → 1 ≤ n → n ≤ length (box .standing) → ConnectionFacts (box .settings) (connection box n)
+pub connection-kept : (box : Box) → sound box ≡ true → (n : ℕ) → 1 ≤ n → n ≤ length (box .standing)
+    → ConnectionFacts (box .settings) (connection box n)
 connection-kept box s n h l = standing-facts box s (connection box n) (connection-member box n h l)
 
 -- An accepted packet is put in among those that wait.
@@ -45,7 +46,8 @@ accepted-put box s n units e =
     let w = within-facts 1 n (length (box .standing)) e in
     let f = sound-facts box s in
     let c = connection-kept box s n (w .0) (w .1) in
-    let m = factor-within (box .settings) (connection box n .class) (settings-facts (box .settings) (f .settings-allowed)) (c .class-least) (c .class-most) in
+    let m = factor-within (box .settings) (connection box n .class) (settings-facts (box .settings) (f .settings-allowed))
+    (c .class-least) (c .class-most) in
     let q = f .queue-count in
     join-put (factor (box .settings) (connection box n .class)) (newPacket box n units) (box .queues) (omega arith)
 
@@ -63,7 +65,8 @@ pub taking : (box : Box) → sound box ≡ true →
     Taking box (linkTaken (box .link) (box .queues)) (flatten (queuesTaken (box .link) (box .queues)))
 taking box s = go (box .link) refl
   where
-    from-free : box .link ≡ free → (o : Option Packet) → lowestHead (box .queues) ≡ o → Taking box (loaded o) (flatten (withoutLowestHead (box .queues)))
+    from-free : box .link ≡ free → (o : Option Packet) → lowestHead (box .queues) ≡ o
+        → Taking box (loaded o) (flatten (withoutLowestHead (box .queues)))
     from-free l none e =
         unfold loaded in
         rw (nothing-taken (box .queues) e, nothing-waits (box .queues) e) (nothing l (unfold waiting in nothing-waits (box .queues) e))
@@ -94,7 +97,8 @@ module _ (box : Box) where
   taken-in-box (carrying x l e) p left h = let y : p ≡ x = cc in inr (l, rw y e)
 
   -- So was a packet that is in the box after the step.
-  pub in-box-before : {l : Link} {W : List Packet} → Taking box l W → (x : Packet) → List·Memᴰ x W ⊎ ((left : ℕ) × (linkSent l ≡ carries x left)) → InBox box x
+  pub in-box-before : {l : Link} {W : List Packet} → Taking box l W → (x : Packet)
+      → List·Memᴰ x W ⊎ ((left : ℕ) × (linkSent l ≡ carries x left)) → InBox box x
   in-box-before (nothing e w) x (inl m) = absurd (List·Memᴰ·not-nil m)
   in-box-before (takes p W e put there others first) x (inl m) = inl (others x m)
   in-box-before (carrying p l e) x (inl m) = inl m

@@ -28,7 +28,9 @@ module _ (box : Box) (H : List Packet) (k : Known box H) (conforming : KeepsEnve
 
   -- The connection of an accepted packet stands, and keeps the table of numbers.
   pub connection-of : (x : Packet) → List·Memᴰ x H → ConnectionFacts (box .settings) (connection box (x .connection))
-  connection-of x m = let f = k .packets-ok x m in k .connections-ok _ (connection-member box (x .connection) (f .connection-least) (f .connection-most))
+  connection-of x m =
+      let f = k .packets-ok x m in
+      k .connections-ok _ (connection-member box (x .connection) (f .connection-least) (f .connection-most))
 
   -- The largest s in the way counts every connection whose bound exceeds t + D.
   counts-in-the-way : (T : ℕ) (v : Packet) → List·Memᴰ v H → T + box .settings .interval < boundOf v →
@@ -61,7 +63,8 @@ module _ (box : Box) (H : List Packet) (k : Known box H) (conforming : KeepsEnve
           omega arith
 
       -- (12) at T.
-      pub far-in-the-way : (v : Packet) → List·Memᴰ v H → rest < v .units → bound (box .settings) 1 ≤ T → T + box .settings .interval < boundOf v → ⊥
+      pub far-in-the-way : (v : Packet) → List·Memᴰ v H → rest < v .units → bound (box .settings) 1 ≤ T
+          → T + box .settings .interval < boundOf v → ⊥
       unfolding sumAt term
       far-in-the-way v m r l far =
           let s = ahead-sum envelope box H k conforming q u T limits in
@@ -73,7 +76,8 @@ module _ (box : Box) (H : List Packet) (k : Known box H) (conforming : KeepsEnve
           omega arith
 
       -- (11) at T, with s to spare.
-      pub near-in-the-way : (v : Packet) → List·Memᴰ v H → rest < v .units → (classOf box v ≡ 1 → ⊥) → boundOf v ≤ T + box .settings .interval →
+      pub near-in-the-way : (v : Packet) → List·Memᴰ v H → rest < v .units → (classOf box v ≡ 1 → ⊥)
+          → boundOf v ≤ T + box .settings .interval →
           ((x : Packet) → List·Memᴰ x H → x .connection ≡ v .connection → q x ≡ true → u ≤ x .arrival → ⊥) → ⊥
       unfolding sumAt term
       near-in-the-way v m r n near none =

@@ -21,7 +21,8 @@ use Rattle.meaning.specs.Envelope.{full, conforms, charged}
 use Rattle.meaning.specs.Admission.{rateHolds, finiteSearch}
 use Rattle.meaning.specs.declared.Standing.{Standing}
 use Rattle.meaning.specs.Box.{Box, connections, connection, noConnection, stands, sound}
-use Rattle.meaning.specs.Calls.{newBox, withNewcomer, searchAnswer, admissionAnswer, withStanding, afterAdmission, allowance, offerAnswer, afterOffer}
+use Rattle.meaning.specs.Calls.{newBox, withNewcomer, searchAnswer, admissionAnswer, withStanding, afterAdmission, allowance, offerAnswer}
+use Rattle.meaning.specs.Calls.{afterOffer}
 use Rattle.meaning.specs.Step.{stepAnswer, moved, afterStep}
 use Rattle.meaning.proofs.KeepsSound.{new-box-sound}
 use Rattle.guarantees.specs.Runs.{Call, admit, offer, step, toOffer, reply, after, Event, trace}
@@ -92,7 +93,8 @@ module _ (n : ℕ) (h : 1 ≤ n) where
       let row : Standing = record { asked = c; allowance = full c } in
       let contracts : connections (withStanding box (box .standing ++ (row ∷ []))) ≡ connections box ++ (c ∷ []) =
       unfold connections withStanding in map-append (λ (s : Standing). s .asked) (box .standing) (row ∷ []) in
-      let meter : allowance (withStanding box (box .standing ++ (row ∷ []))) n ≡ cond (eqb (n - 1) (length (connections box))) (full c) (allowance box n) =
+      let meter : allowance (withStanding box (box .standing ++ (row ∷ []))) n ≡
+      cond (eqb (n - 1) (length (connections box))) (full c) (allowance box n) =
       unfold allowance withStanding in
       (ap (λ l. getD l (n - 1) (full noConnection)) (map-append (λ (s : Standing). s .allowance) (box .standing) (row ∷ [])) ∙
       getD-last (map (λ (s : Standing). s .allowance) (box .standing)) (full c) (full noConnection) (n - 1) ∙
@@ -126,7 +128,8 @@ module _ (n : ℕ) (h : 1 ≤ n) where
       rw (says .5) (λ i. record { contracts = contracts i; meter = meter i })
 
   -- The offers of others do not change it.
-  view-other : (box : Box) (m units : ℕ) → (m ≡ n → ⊥) → (o : Offered) → OfferSays box m units o → view n (afterOffer box m units o) ≡ view n box
+  view-other : (box : Box) (m units : ℕ) → (m ≡ n → ⊥) → (o : Offered) → OfferSays box m units o
+      → view n (afterOffer box m units o) ≡ view n box
   unfolding view
   view-other box m units ne (Offered.Refused why) says = unfold afterOffer in refl
   view-other box m units ne (Offered.Accepted serial) says =
@@ -150,8 +153,10 @@ module _ (n : ℕ) (h : 1 ≤ n) where
     After v = told n es ≡ replay (box .settings) n v (asked n es)
 
     -- An offer of the connection itself.
-    told-own : (units : ℕ) → isTen (toOffer (offerAnswer box n units)) ≡ false → After (view n (afterOffer box n units (offerAnswer box n units))) →
-        serialAside (offerAnswer box n units) ∷ told n es ≡ replay (box .settings) n (view n box) (offering (box .counter) units ∷ asked n es)
+    told-own : (units : ℕ) → isTen (toOffer (offerAnswer box n units)) ≡ false
+        → After (view n (afterOffer box n units (offerAnswer box n units))) →
+        serialAside (offerAnswer box n units) ∷ told n es ≡
+        replay (box .settings) n (view n box) (offering (box .counter) units ∷ asked n es)
     unfolding replay
     told-own units t i =
         let o = offer-says box n units in
@@ -161,7 +166,8 @@ module _ (n : ℕ) (h : 1 ≤ n) where
         λ k. a k ∷ rest k
 
     -- Any offer.
-    told-offer : (m units : ℕ) → isTen (toOffer (offerAnswer box m units)) ≡ false → After (view n (afterOffer box m units (offerAnswer box m units))) →
+    told-offer : (m units : ℕ) → isTen (toOffer (offerAnswer box m units)) ≡ false
+        → After (view n (afterOffer box m units (offerAnswer box m units))) →
         answerTo n (offer m units) (toOffer (offerAnswer box m units)) ++ told n es ≡
         replay (box .settings) n (view n box) (askOf n (box .counter) (offer m units) ++ asked n es)
     unfolding answerTo askOf
@@ -169,7 +175,8 @@ module _ (n : ℕ) (h : 1 ≤ n) where
         elim (ℕ-discrete m n) [
           | yes e ↦ rw (eq-eqb m n e) (subst (λ m. isTen (toOffer (offerAnswer box m units)) ≡ false →
               After (view n (afterOffer box m units (offerAnswer box m units))) →
-              serialAside (offerAnswer box m units) ∷ told n es ≡ replay (box .settings) n (view n box) (offering (box .counter) units ∷ asked n es))
+              serialAside (offerAnswer box m units) ∷ told n es ≡
+              replay (box .settings) n (view n box) (offering (box .counter) units ∷ asked n es))
               (sym e) (told-own units) t i)
           | no e ↦ rw (ne-eqb m n e) (i ∙ ap (λ v. replay (box .settings) n v (asked n es))
               (view-other box m units e (offerAnswer box m units) (offer-says box m units)))

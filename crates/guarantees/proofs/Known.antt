@@ -2,7 +2,8 @@
 use Prim.Native.Nat.{ℕ, suc, _-_, _≤_}
 use mathlib.Core.Path.{_≡_, ap}
 use mathlib.Core.Bool.{true}
-use mathlib.Core.List.{List, [], _∷_, _++_, map, map-append, List·Memᴰ, List·Memᴰ·not-nil, List·Memᴰ·eq-of-singleton, List·Memᴰ·append-cases, Memᴰ·append-left, Memᴰ·append-right}
+use mathlib.Core.List.{List, [], _∷_, _++_, map, map-append, List·Memᴰ, List·Memᴰ·not-nil, List·Memᴰ·eq-of-singleton}
+use mathlib.Core.List.{List·Memᴰ·append-cases, Memᴰ·append-left, Memᴰ·append-right}
 use mathlib.Core.Logic.{_⊎_, inl, inr, ⊎-elim}
 use lib.ListN.{length}
 use native.Mathlib.Omega.{arith}
@@ -27,7 +28,8 @@ use Rattle.guarantees.proofs.WithoutEnd.{condition-test}
 use Rattle.guarantees.proofs.Admitting.{taken-holds, newcomer-facts}
 use Rattle.guarantees.proofs.Backlog.{OnLink}
 use Rattle.guarantees.proofs.Sending.{sent-cases}
-use Rattle.guarantees.proofs.Moves.{Move, refused, joins, accepts, idles, sends, departs, newPacket, Grows, move-grows, charged-same, facts-grow, accepting, AcceptSays}
+use Rattle.guarantees.proofs.Moves.{Move, refused, joins, accepts, idles, sends, departs, newPacket, Grows, move-grows}
+use Rattle.guarantees.proofs.Moves.{charged-same, facts-grow, accepting, AcceptSays}
 use Rattle.guarantees.proofs.Effects.{accepted-put, Taking, nothing, takes, carrying, taking, stepped-same}
 
 -- What is known of the box and of every packet accepted so far.
@@ -119,7 +121,8 @@ known-accepts box H n units s g k =
           (λ (h : List·Memᴰ x (p ∷ [])). rw (List·Memᴰ·eq-of-singleton h) (new-packet-facts box n units s g)) (List·Memᴰ·append-cases H m);
       arrivals-rise = λ x y m l h. rise x y (List·Memᴰ·append-cases H m) (List·Memᴰ·append-cases H l) h;
       waiting-known = λ x m. ⊎-elim (λ (h : x ≡ p). Memᴰ·append-right H (List·Memᴰ.List·Memᴰ·head h))
-          (λ (h : List·Memᴰ x (waiting box)). Memᴰ·append-left (p ∷ []) (k .waiting-known x h)) (accepted-put box (s .0) n units (s .1) .parts x m);
+          (λ (h : List·Memᴰ x (waiting box)). Memᴰ·append-left (p ∷ []) (k .waiting-known x h))
+          (accepted-put box (s .0) n units (s .1) .parts x m);
       link-known = λ x left l. on-link-more p (k .link-known x left l);
     }
   where
@@ -166,7 +169,8 @@ known-steps box H go g k =
     sent : (p : Packet) (left : ℕ) → List·Memᴰ p H → left ≤ p .units →
         (x : Packet) (l : ℕ) → linkSent (carries p left) ≡ carries x l → OnLink (suc (box .counter)) H x l
     sent p left m u x l e =
-        ⊎-elim (λ (c : (left ≤ 1) × (linkSent (carries p left) ≡ free)). absurd (let h = c .1 in let z : _≡_ {A = ℕ} 0 1 = cc in omega arith))
+        ⊎-elim (λ (c : (left ≤ 1) × (linkSent (carries p left) ≡ free)). absurd
+        (let h = c .1 in let z : _≡_ {A = ℕ} 0 1 = cc in omega arith))
         (λ (c : (2 ≤ left) × (linkSent (carries p left) ≡ carries p (left - 1))).
         let h = c .1 in
         let two = c .0 in
@@ -176,7 +180,8 @@ known-steps box H go g k =
         rw (y, n) (record { accepted = m; earlier = omega arith; some-left = omega arith; some-sent = omega arith }))
         (sent-cases p left)
 
-    link : {l : Link} {W : List Packet} → Taking box l W → (x : Packet) (left : ℕ) → linkSent l ≡ carries x left → OnLink (suc (box .counter)) H x left
+    link : {l : Link} {W : List Packet} → Taking box l W → (x : Packet) (left : ℕ) → linkSent l ≡ carries x left
+        → OnLink (suc (box .counter)) H x left
     link (nothing e w) x left h = unfold linkSent in absurd (let z : _≡_ {A = ℕ} 0 1 = cc in omega arith)
     link (takes p W e put there others first) x left h = sent p (p .units) (k .waiting-known p there) (omega arith) x left h
     link (carrying p l e) x left h = let o = k .link-known p l e in let s = o .some-sent in sent p l (o .accepted) (omega arith) x left h
@@ -186,7 +191,8 @@ pub known-moves : (box next : Box) (H H′ : List Packet) (G G′ : List Departu
 known-moves box next H H′ G G′ k refused = k
 known-moves box next H H′ G G′ k (joins c n e) =
     known-joins box H c n e (box .standing ++ (record { asked = c; allowance = full c } ∷ []))
-    (unfold withNewcomer connections in map-append (λ (s : Standing). s .asked) (box .standing) (record { asked = c; allowance = full c } ∷ []))
+    (unfold withNewcomer connections in map-append (λ (s : Standing). s .asked) (box .standing)
+    (record { asked = c; allowance = full c } ∷ []))
     (move-grows {H = H} {G = G} (joins c n e)) k
 known-moves box next H H′ G G′ k (accepts n units s) = known-accepts box H n units s (move-grows {H = H} {G = G} (accepts n units s)) k
 known-moves box next H H′ G G′ k (idles go e) = known-steps box H go (move-grows {H = H} {G = G} (idles go e)) k

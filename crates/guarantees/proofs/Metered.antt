@@ -23,7 +23,8 @@ use Rattle.meaning.proofs.Facts.{ConnectionFacts}
 use Rattle.meaning.proofs.Allowances.{Means, full-means, means-later}
 use Rattle.meaning.proofs.RecordFits.{Descending, descending-later, numberOf, record-answers, record-charged}
 use Rattle.guarantees.specs.Runs.{Departure, slotsOf, WithinEnvelope}
-use Rattle.guarantees.proofs.Moves.{Move, refused, joins, accepts, idles, sends, departs, newPacket, Grows, move-grows, accepting, AcceptSays, joining}
+use Rattle.guarantees.proofs.Moves.{Move, refused, joins, accepts, idles, sends, departs, newPacket, Grows, move-grows, accepting}
+use Rattle.guarantees.proofs.Moves.{AcceptSays, joining}
 use Rattle.guarantees.proofs.Records.{charged-mine, charged-other, joined-other, joined-allowance, joined-connection}
 use Rattle.guarantees.proofs.Effects.{connection-member}
 use Rattle.guarantees.proofs.Known.{Known}
@@ -113,7 +114,8 @@ metered-accepts : (box : Box) (H : List Packet) (n units : ℕ) → AcceptSays b
 metered-accepts box H n units s g k m j h l =
     elim (ℕ-discrete n j) [
       | yes e ↦ rw (← e) mine
-      | no e ↦ meter-stays box next H H′ j (g .connection-same j h more) (charged-other box n units j (r .0) h e) (slots-other j H p e) (g .counter-more) (m j h more)
+      | no e ↦ meter-stays box next H H′ j (g .connection-same j h more) (charged-other box n units j (r .0) h e) (slots-other j H p e)
+          (g .counter-more) (m j h more)
     ]
   where
     p : Packet
@@ -138,7 +140,8 @@ metered-accepts box H n units s g k m j h l =
     mine : Meter (connection next n) (allowance next n) (slotsOf n H′) (next .counter)
     mine =
         rw (g .connection-same n (r .0) (r .1), charged-mine box n units (r .0) (r .1), slots-mine n H p refl)
-        (unfold afterOffer in meter-charged (connection box n) (allowance box n) (slotsOf n H) (box .counter) (c .period-least) (c .burst-least) (m n (r .0) (r .1)) (s .3))
+        (unfold afterOffer in meter-charged (connection box n) (allowance box n) (slotsOf n H) (box .counter) (c .period-least)
+        (c .burst-least) (m n (r .0) (r .1)) (s .3))
 
 -- A step charges nothing.
 metered-steps : (box : Box) (H : List Packet) → Grows box (moved box) → Metered box H → Metered (moved box) H
@@ -147,10 +150,12 @@ metered-steps box H g m j h l =
     meter-stays box (moved box) H H j (g .connection-same j h o) (unfold moved allowance in refl) refl (g .counter-more) (m j h o)
 
 -- Every move keeps it.
-pub metered-moves : (box next : Box) (H H′ : List Packet) (G G′ : List Departure) → Known box H → Metered box H → Move box H G next H′ G′ → Metered next H′
+pub metered-moves : (box next : Box) (H H′ : List Packet) (G G′ : List Departure) → Known box H → Metered box H → Move box H G next H′ G′
+    → Metered next H′
 metered-moves box next H H′ G G′ k m refused = m
 metered-moves box next H H′ G G′ k m (joins c n e) = metered-joins box H c (move-grows {H = H} {G = G} (joins c n e)) k m
-metered-moves box next H H′ G G′ k m (accepts n units s) = metered-accepts box H n units s (move-grows {H = H} {G = G} (accepts n units s)) k m
+metered-moves box next H H′ G G′ k m (accepts n units s) =
+    metered-accepts box H n units s (move-grows {H = H} {G = G} (accepts n units s)) k m
 metered-moves box next H H′ G G′ k m (idles go e) = metered-steps box H (move-grows {H = H} {G = G} (idles go e)) m
 metered-moves box next H H′ G G′ k m (sends go p left e l) = metered-steps box H (move-grows {H = H} {G = G} (sends go p left e l)) m
 metered-moves box next H H′ G G′ k m (departs go p left e l) = metered-steps box H (move-grows {H = H} {G = G} (departs go p left e l)) m
@@ -159,5 +164,6 @@ metered-moves box next H H′ G G′ k m (departs go p left e l) = metered-steps
 pub metered-conforms : (box : Box) (H : List Packet) → Known box H → Metered box H → KeepsEnvelope envelope box H
 unfolding envelope
 metered-conforms box H k m j h l x t =
-    let u = units-count H j (connection box j .longest) x (x + t) (λ p n e. subst (λ i. p .units ≤ connection box i .longest) e (k .packets-ok p n .units-most)) in
+    let u = units-count H j (connection box j .longest) x
+    (x + t) (λ p n e. subst (λ i. p .units ≤ connection box i .longest) e (k .packets-ok p n .units-most)) in
     le-trans u (mul-le-mul-left (connection box j .longest) (m j h l .within-may x t))

@@ -18,7 +18,8 @@ use Rattle.meaning.specs.Box.{Box, free, carries, connections, connection, noCo
 use Rattle.meaning.specs.Calls.{admissionAnswer, withStanding, afterAdmission, offerAnswer, afterOffer, chargedAt}
 use Rattle.meaning.specs.Step.{linkTaken, stepAnswer, moved, afterStep}
 use Rattle.meaning.proofs.Facts.{PacketFacts}
-use Rattle.guarantees.specs.Runs.{Call, admit, offer, step, reply, after, boxAfter, trace, offerTaken, packetTaken, acceptedIn, Departure, stepLeft, packetLeft, departedIn}
+use Rattle.guarantees.specs.Runs.{Call, admit, offer, step, reply, after, boxAfter, trace, offerTaken, packetTaken, acceptedIn}
+use Rattle.guarantees.specs.Runs.{Departure, stepLeft, packetLeft, departedIn}
 use Rattle.guarantees.proofs.Saying.{OfferSays, offer-says, StepGoes, StepSays, step-says}
 
 -- The packet that an accepted offer brings in.
@@ -111,19 +112,32 @@ pub charged-same : (box : Box) (n : ℕ) → map (λ (s : Standing). s .asked) (
 unfolding chargedAt connections connection noConnection
 charged-same box n =
     map-set-same (λ s. s .asked) (box .standing) (n - 1) _ (record { asked = noConnection; allowance = full noConnection })
-    (lib.ListN.List·getD-map (λ (s : Standing). s .asked) (box .standing) (n - 1) (record { asked = noConnection; allowance = full noConnection }))
+    (lib.ListN.List·getD-map (λ (s : Standing). s .asked) (box .standing) (n - 1)
+    (record { asked = noConnection; allowance = full noConnection }))
 
 -- A step takes nothing of this back.
 step-grows : (box : Box) → Grows box (moved box)
 unfolding moved connection connections
 step-grows box =
-    record { settings-same = refl; connection-same = λ n h l. refl; standing-more = omega arith; accepted-more = omega arith; counter-more = omega arith }
+    record {
+      settings-same = refl;
+      connection-same = λ n h l. refl;
+      standing-more = omega arith;
+      accepted-more = omega arith;
+      counter-more = omega arith;
+    }
 
 -- Every move does so.
 pub move-grows : {box next : Box} {H H′ : List Packet} {G G′ : List Departure} → Move box H G next H′ G′ → Grows box next
 unfolding withStanding afterOffer moved
 move-grows refused =
-    record { settings-same = refl; connection-same = λ n h l. refl; standing-more = omega arith; accepted-more = omega arith; counter-more = omega arith }
+    record {
+      settings-same = refl;
+      connection-same = λ n h l. refl;
+      standing-more = omega arith;
+      accepted-more = omega arith;
+      counter-more = omega arith;
+    }
 move-grows {box} (joins c n e) =
     record {
       settings-same = refl;
@@ -138,7 +152,8 @@ move-grows {box} (accepts n units s) =
     record {
       settings-same = refl;
       connection-same = λ m h l. unfold connection connections in
-          (let e : map (λ (s : Standing). s .asked) (chargedAt box n) ≡ map (λ (s : Standing). s .asked) (box .standing) = charged-same box n in rw e);
+          (let e : map (λ (s : Standing). s .asked) (chargedAt box n) ≡
+          map (λ (s : Standing). s .asked) (box .standing) = charged-same box n in rw e);
       standing-more = unfold chargedAt in rw length-set (omega arith);
       accepted-more = omega arith;
       counter-more = omega arith;

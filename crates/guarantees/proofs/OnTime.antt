@@ -18,7 +18,8 @@ use Rattle.meaning.proofs.QueueLaws.{empty-flatten}
 use Rattle.guarantees.specs.Runs.{Departure, dueBy, InBox}
 use Rattle.guarantees.proofs.Saying.{StepGoes}
 use Rattle.guarantees.proofs.Classes.{bound-least}
-use Rattle.guarantees.proofs.Moves.{Move, refused, joins, accepts, idles, sends, departs, newPacket, leaving, Grows, move-grows, accepting, AcceptSays}
+use Rattle.guarantees.proofs.Moves.{Move, refused, joins, accepts, idles, sends, departs, newPacket, leaving, Grows, move-grows}
+use Rattle.guarantees.proofs.Moves.{accepting, AcceptSays}
 use Rattle.guarantees.proofs.Effects.{accepted-put, taking, stepped-same, connection-member, taken-in-box, in-box-before}
 use Rattle.guarantees.proofs.Known.{Known}
 use Rattle.guarantees.proofs.Scheduled.{Scheduled}
@@ -37,7 +38,8 @@ in-box-known box H k p (inl m) = k .waiting-known p m
 in-box-known box H k p (inr l) = k .link-known p (l .0) (l .1) .accepted
 
 -- The bound of a standing connection does not change.
-due-same : (box next : Box) → Grows box next → (n arrival : ℕ) → 1 ≤ n → n ≤ length (box .standing) → dueBy next n arrival ≡ dueBy box n arrival
+due-same : (box next : Box) → Grows box next → (n arrival : ℕ) → 1 ≤ n → n ≤ length (box .standing)
+    → dueBy next n arrival ≡ dueBy box n arrival
 unfolding dueBy
 due-same box next g n arrival h l = rw (g .connection-same n h l, g .settings-same)
 
@@ -60,7 +62,8 @@ departed-stays box next G w o g m =
     (d .0, omega arith, rw (due-same box next w (g .connection) (g .arrival) (d .0) (d .1)) (d .2))
 
 -- A packet that was in the box and is there at the same slot.
-in-box-stays : (box next : Box) (H : List Packet) (G : List Departure) → Grows box next → Known box H → OnTime box G → next .counter ≡ box .counter →
+in-box-stays : (box next : Box) (H : List Packet) (G : List Departure) → Grows box next → Known box H → OnTime box G
+    → next .counter ≡ box .counter →
     (p : Packet) → InBox box p → next .counter < dueBy next (p .connection) (p .arrival)
 in-box-stays box next H G w k o c p i =
     let f = k .packets-ok p (in-box-known box H k p i) in

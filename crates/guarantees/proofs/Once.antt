@@ -46,7 +46,8 @@ once-new set f = rw empty-flatten
 -- A number that is not in the range fails its test.
 within-out : (low x high : ℕ) → (low ≤ x → x ≤ high → ⊥) → within low x high ≡ false
 within-out low x high h =
-    ⊎-elim (λ (e : within low x high ≡ true). absurd (let w = within-facts low x high e in h (w .0) (w .1))) (λ e. e) (bool-cases (within low x high))
+    ⊎-elim (λ (e : within low x high ≡ true). absurd (let w = within-facts low x high e in h (w .0) (w .1))) (λ e. e)
+    (bool-cases (within low x high))
 
 -- A new box has no serial.
 pub numbered-new : (set : Settings) → Numbered (newBox set) []
@@ -68,7 +69,8 @@ module _ (box : Box) (f : ℕ → ℕ → ℕ → ℕ) where
   taken-once (carrying p left e) = let a : onLink (box .link) ≡ p ∷ [] = ap onLink e in rw a
 
   -- A unit that is not the last leaves the packet on the link.
-  sent-once : (p : Packet) (left : ℕ) → leb left 1 ≡ false → ofPackets f (onLink (linkSent (carries p left))) ≡ ofPackets f (onLink (carries p left))
+  sent-once : (p : Packet) (left : ℕ) → leb left 1 ≡ false
+      → ofPackets f (onLink (linkSent (carries p left))) ≡ ofPackets f (onLink (carries p left))
   unfolding linkSent onLink
   sent-once p left e = rw e
 
@@ -126,7 +128,8 @@ once-moves box next H H′ G G′ o (departs go p left e l) = λ f.
     unfold ofPackets onLink in sum-one (λ (p : Packet). f (p .serial) (p .connection) (p .arrival)) p in
     let v : ofDepartures f (G ++ (leaving box p ∷ [])) ≡ ofDepartures f G + f (p .serial) (p .connection) (p .arrival) =
     unfold ofDepartures in (sum-append (λ (g : Departure). f (g .serial) (g .connection) (g .arrival)) G (leaving box p ∷ []) ∙
-    ap (λ n. sumOf (λ (g : Departure). f (g .serial) (g .connection) (g .arrival)) G + n) (sum-one (λ (g : Departure). f (g .serial) (g .connection) (g .arrival)) (leaving box p))) in
+    ap (λ n. sumOf (λ (g : Departure). f (g .serial) (g .connection) (g .arrival)) G + n)
+    (sum-one (λ (g : Departure). f (g .serial) (g .connection) (g .arrival)) (leaving box p))) in
     let q = o f in
     let a = ap (λ (l : Link). ofPackets f (onLink l)) m in
     omega arith
@@ -165,7 +168,8 @@ numbered-accepts box H p e k n =
             ]) ∙ sym t
 
 -- Every move keeps it.
-pub numbered-moves : (box next : Box) (H H′ : List Packet) (G G′ : List Departure) → Numbered box H → Move box H G next H′ G′ → Numbered next H′
+pub numbered-moves : (box next : Box) (H H′ : List Packet) (G G′ : List Departure) → Numbered box H → Move box H G next H′ G′
+    → Numbered next H′
 numbered-moves box next H H′ G G′ o refused = o
 numbered-moves box next H H′ G G′ o (joins c n e) = unfold withStanding in o
 numbered-moves box next H H′ G G′ o (accepts n units s) = unfold afterOffer in numbered-accepts box H (newPacket box n units) refl o
@@ -189,7 +193,8 @@ count-last k zero m e = let f : m ≡ k = omega arith in rw f
 count-last k (suc n) m e = ap (λ (l : List ℕ). k ∷ l) (count-last (suc k) n m (omega arith))
 
 -- Every move keeps it.
-pub counted-moves : (box next : Box) (H H′ : List Packet) (G G′ : List Departure) → Counted box H → Move box H G next H′ G′ → Counted next H′
+pub counted-moves : (box next : Box) (H H′ : List Packet) (G G′ : List Departure) → Counted box H → Move box H G next H′ G′
+    → Counted next H′
 counted-moves box next H H′ G G′ c refused = c
 counted-moves box next H H′ G G′ c (joins d n e) = unfold withStanding in c
 counted-moves box next H H′ G G′ c (accepts n units s) =

@@ -2,7 +2,8 @@
 use Prim.Native.Nat.{ℕ, _≤_, _<_}
 use mathlib.Core.Path.{_≡_, refl, sym, _∙_, ap}
 use mathlib.Core.Bool.{Bool, true, not, _||_, and-eq-true-iff}
-use mathlib.Core.List.{List, [], _∷_, _++_, flatten, List·Memᴰ, List·Memᴰ·head, List·Memᴰ·tail, List·Memᴰ·not-nil, List·Memᴰ·eq-of-singleton, List·Memᴰ·append-cases}
+use mathlib.Core.List.{List, [], _∷_, _++_, flatten, List·Memᴰ, List·Memᴰ·head, List·Memᴰ·tail, List·Memᴰ·not-nil}
+use mathlib.Core.List.{List·Memᴰ·eq-of-singleton, List·Memᴰ·append-cases}
 use mathlib.Core.Logic.{inl, inr, ⊎-elim}
 use lib.Dec.{leb, ltb, eqb}
 use borrow.Author.Tests.{lt-ltb, ne-eqb}
@@ -21,7 +22,8 @@ use Rattle.guarantees.proofs.Choosing.{Before}
 use Rattle.guarantees.proofs.Limits.{earlier-interval}
 use Rattle.guarantees.proofs.Sending.{sent-is}
 use Rattle.guarantees.proofs.Moves.{Move, refused, joins, accepts, idles, sends, departs, newPacket, leaving, accepting, AcceptSays}
-use Rattle.guarantees.proofs.Effects.{accepted-put, Taking, nothing, takes, carrying, taking, stepped-same, taken-in-box, in-box-before}
+use Rattle.guarantees.proofs.Effects.{accepted-put, Taking, nothing, takes, carrying, taking, stepped-same, taken-in-box}
+use Rattle.guarantees.proofs.Effects.{in-box-before}
 use Rattle.guarantees.proofs.Known.{Known}
 use Rattle.guarantees.proofs.OnTime.{in-box-known}
 
@@ -60,7 +62,8 @@ in-order-last (g ∷ G) d e h =
     last : not (eqb (g .connection) (d .connection)) || ltb (g .serial) (d .serial) ≡ true
     last =
         elim (ℕ-discrete (g .connection) (d .connection)) [
-          | yes c ↦ or-right (not (eqb (g .connection) (d .connection))) (ltb (g .serial) (d .serial)) (lt-ltb _ _ (h g (List·Memᴰ·head refl) c))
+          | yes c ↦ or-right (not (eqb (g .connection) (d .connection))) (ltb (g .serial) (d .serial))
+              (lt-ltb _ _ (h g (List·Memᴰ·head refl) c))
           | no c ↦ or-left (not (eqb (g .connection) (d .connection))) (ltb (g .serial) (d .serial)) (ap not (ne-eqb _ _ c))
         ]
 
@@ -86,20 +89,23 @@ ordered-accepts box H G n units s k o =
       link-first = λ p left l x m c. ⊎-elim
           (λ (e : x ≡ newPacket box n units). let f = k .packets-ok p (k .link-known p left (same p left l) .accepted) .serial-most in
           let a = ap (λ (p : Packet). p .serial) e in omega arith)
-          (λ (h : List·Memᴰ x (waiting box)). o .link-first p left (same p left l) x h c) (accepted-put box (s .0) n units (s .1) .parts x m);
+          (λ (h : List·Memᴰ x (waiting box)). o .link-first p left (same p left l) x h c)
+          (accepted-put box (s .0) n units (s .1) .parts x m);
     }
   where
     same : (p : Packet) (left : ℕ) → accepting box n units .link ≡ carries p left → box .link ≡ carries p left
     same p left l = unfold afterOffer in l
 
-    gone : (g : Departure) → List·Memᴰ g G → (x : Packet) → InBox (accepting box n units) x → g .connection ≡ x .connection → g .serial < x .serial
+    gone : (g : Departure) → List·Memᴰ g G → (x : Packet) → InBox (accepting box n units) x → g .connection ≡ x .connection
+        → g .serial < x .serial
     gone g m x (inl w) c =
         ⊎-elim (λ (e : x ≡ newPacket box n units). let f = o .counted g m in let a = ap (λ (p : Packet). p .serial) e in omega arith)
         (λ (h : List·Memᴰ x (waiting box)). o .gone-first g m x (inl h) c) (accepted-put box (s .0) n units (s .1) .parts x w)
     gone g m x (inr l) c = o .gone-first g m x (inr (l .0, same x (l .0) (l .1))) c
 
 -- The packet that a step sends goes before all of its connection that wait then.
-sends-first : (box : Box) (H : List Packet) (G : List Departure) → Known box H → Ordered box G → {l : Link} {W : List Packet} → Taking box l W →
+sends-first : (box : Box) (H : List Packet) (G : List Departure) → Known box H → Ordered box G → {l : Link} {W : List Packet}
+    → Taking box l W →
     (p : Packet) (left : ℕ) → l ≡ carries p left → (x : Packet) → List·Memᴰ x W → p .connection ≡ x .connection → p .serial < x .serial
 sends-first box H G k o (nothing e w) p left h x m c = absurd (List·Memᴰ·not-nil m)
 sends-first box H G k o (takes y W e put there others first) p left h x m c =
@@ -114,7 +120,8 @@ ordered-steps box H G go k o =
       so-far = o .so-far;
       counted = unfold moved in o .counted;
       gone-first = λ g m x i c. o .gone-first g m x (before i) c;
-      link-first = λ p left l x m c. link (linkTaken (box .link) (box .queues)) refl p left (unfold moved in l) x (stepped-same box .parts x m) c;
+      link-first =
+          λ p left l x m c. link (linkTaken (box .link) (box .queues)) refl p left (unfold moved in l) x (stepped-same box .parts x m) c;
     }
   where
     before : {x : Packet} → InBox (moved box) x → InBox box x
@@ -130,14 +137,16 @@ ordered-steps box H G go k o =
 
 -- A step that reports a departure keeps the order.
 ordered-departs : (box : Box) (H : List Packet) (G : List Departure) → StepGoes box → Known box H → Ordered box G →
-    (p : Packet) (left : ℕ) → linkTaken (box .link) (box .queues) ≡ carries p left → leb left 1 ≡ true → Ordered (moved box) (G ++ (leaving box p ∷ []))
+    (p : Packet) (left : ℕ) → linkTaken (box .link) (box .queues) ≡ carries p left → leb left 1 ≡ true
+    → Ordered (moved box) (G ++ (leaving box p ∷ []))
 ordered-departs box H G go k o p left e l =
     let s = ordered-steps box H G go k o in
     let i = taken-in-box box (taking box (go .was-sound)) p left e in
     record {
       so-far = in-order-last G (leaving box p) (o .so-far) (λ g m c. o .gone-first g m p i c);
       counted = λ g m. ⊎-elim (s .counted g) (λ (n : List·Memᴰ g (leaving box p ∷ [])). unfold moved in
-          (let f = k .packets-ok p (in-box-known box H k p i) .serial-most in let a = ap (λ (g : Departure). g .serial) (List·Memᴰ·eq-of-singleton n) in omega arith))
+          (let f = k .packets-ok p (in-box-known box H k p i) .serial-most in let a = ap (λ (g : Departure). g .serial)
+          (List·Memᴰ·eq-of-singleton n) in omega arith))
           (List·Memᴰ·append-cases G m);
       gone-first = λ g m x j c. ⊎-elim (λ (n : List·Memᴰ g G). s .gone-first g n x j c)
           (λ (n : List·Memᴰ g (leaving box p ∷ [])). let y = List·Memᴰ·eq-of-singleton n in
@@ -155,7 +164,8 @@ ordered-departs box H G go k o p left e l =
     only x (inr j) c = absurd (let h = j .1 in let f = link-free in let z : _≡_ {A = ℕ} 0 1 = cc in omega arith)
 
 -- Every move keeps the order.
-pub ordered-moves : (box next : Box) (H H′ : List Packet) (G G′ : List Departure) → Known box H → Ordered box G → Move box H G next H′ G′ → Ordered next G′
+pub ordered-moves : (box next : Box) (H H′ : List Packet) (G G′ : List Departure) → Known box H → Ordered box G → Move box H G next H′ G′
+    → Ordered next G′
 ordered-moves box next H H′ G G′ k o refused = o
 ordered-moves box next H H′ G G′ k o (joins c n e) =
     record {

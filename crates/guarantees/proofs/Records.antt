@@ -37,14 +37,17 @@ joined-other box row j h l =
     (rw length-map (omega arith)))
 
 -- The newcomer's record is fresh.
-pub joined-allowance : (box : Box) (row : Standing) → allowance (withStanding box (box .standing ++ (row ∷ []))) (suc (length (box .standing))) ≡ row .allowance
+pub joined-allowance : (box : Box) (row : Standing)
+    → allowance (withStanding box (box .standing ++ (row ∷ []))) (suc (length (box .standing))) ≡ row .allowance
 unfolding allowance withStanding
 joined-allowance box row =
-    let e : suc (length (box .standing)) - 1 ≡ length (map (λ (s : Standing). s .allowance) (box .standing)) = rw length-map (omega arith) in
+    let e : suc (length (box .standing)) - 1 ≡ length (map (λ (s : Standing). s .allowance) (box .standing)) =
+    rw length-map (omega arith) in
     rw (map-append, e) (last-at (map (λ (s : Standing). s .allowance) (box .standing)) (row .allowance) (full noConnection))
 
 -- The newcomer's contract is what it asked for.
-pub joined-connection : (box : Box) (row : Standing) → connection (withStanding box (box .standing ++ (row ∷ []))) (suc (length (box .standing))) ≡ row .asked
+pub joined-connection : (box : Box) (row : Standing)
+    → connection (withStanding box (box .standing ++ (row ∷ []))) (suc (length (box .standing))) ≡ row .asked
 unfolding connection connections withStanding
 joined-connection box row =
     let e : suc (length (box .standing)) - 1 ≡ length (map (λ (s : Standing). s .asked) (box .standing)) = rw length-map (omega arith) in

@@ -136,7 +136,8 @@ step-says box =
     (linkTaken (box .link) (box .queues)) refl
   where
     sent : StepGoes box → (p : Packet) (units : ℕ) → linkTaken (box .link) (box .queues) ≡ carries p units → (b : Bool) → leb units 1 ≡ b →
-        StepSays box (cond b (Stepped.Departed (p .serial) (p .connection) (p .arrival) (suc (box .counter))) (Stepped.Sending (p .serial) (units - 1)))
+        StepSays box (cond b (Stepped.Departed (p .serial) (p .connection) (p .arrival) (suc (box .counter)))
+        (Stepped.Sending (p .serial) (units - 1)))
     sent g p units l true e = (g, p, units, l, e, refl, refl, refl, refl)
     sent g p units l false e = (g, p, units, l, e)
 

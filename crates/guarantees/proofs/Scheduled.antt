@@ -19,7 +19,8 @@ use Rattle.guarantees.proofs.Saying.{StepGoes}
 use Rattle.guarantees.proofs.Choosing.{Before}
 use Rattle.guarantees.proofs.Backlog.{waitingWork, linkWork, Backlog, accept-keeps}
 use Rattle.guarantees.proofs.Sending.{take-keeps, send-keeps, idle-keeps}
-use Rattle.guarantees.proofs.Moves.{Move, refused, joins, accepts, idles, sends, departs, newPacket, Grows, move-grows, rank-stays, accepting, AcceptSays}
+use Rattle.guarantees.proofs.Moves.{Move, refused, joins, accepts, idles, sends, departs, newPacket, Grows, move-grows, rank-stays}
+use Rattle.guarantees.proofs.Moves.{accepting, AcceptSays}
 use Rattle.guarantees.proofs.Effects.{accepted-put, Taking, nothing, takes, carrying, taking, stepped-same}
 use Rattle.guarantees.proofs.Known.{Known}
 
@@ -39,7 +40,8 @@ closed-before box next H H′ q g k more closed x y m n before =
     let b = rank-stays g y (k .packets-ok y n) in
     closed x y (more x m) (more y n)
     (⊎-elim (λ (l : rankIn box x < rankIn box y). inl (let z : rankIn next x < rankIn next y = omega arith in z))
-    (λ (e : (rankIn box x ≡ rankIn box y) × (x .serial < y .serial)). inr (let f = e .0 in let z : rankIn next x ≡ rankIn next y = omega arith in z, e .1))
+    (λ (e : (rankIn box x ≡ rankIn box y) × (x .serial < y .serial)). inr
+    (let f = e .0 in let z : rankIn next x ≡ rankIn next y = omega arith in z, e .1))
     before)
 
 -- A new box has nothing to send.
@@ -48,7 +50,8 @@ unfolding newBox waiting emptyQueues waitingWork linkWork sumOf
 scheduled-new set q closed = inl (rw empty-flatten)
 
 -- A step keeps the fact.
-scheduled-steps : (box : Box) (H : List Packet) → StepGoes box → Grows box (moved box) → Known box H → Scheduled box H → Scheduled (moved box) H
+scheduled-steps : (box : Box) (H : List Packet) → StepGoes box → Grows box (moved box) → Known box H → Scheduled box H
+    → Scheduled (moved box) H
 scheduled-steps box H go g k s q closed =
     unfold moved in
     step (taking box (go .was-sound)) (stepped-same box) (s q here)
@@ -63,7 +66,8 @@ scheduled-steps box H go g k s q closed =
         let c = k .packets-ok p (k .waiting-known p there) in
         send-keeps q (box .counter) W _ H p (p .units) (c .units-least) same
         (take-keeps q (box .counter) (waiting box) W H p put there others
-        (λ x m h. here p x (k .waiting-known p there) (k .waiting-known x (others x m)) (first x m) h) (subst (λ (l : Link). Backlog q (box .counter) (waiting box) l H) e b))
+        (λ x m h. here p x (k .waiting-known p there) (k .waiting-known x (others x m)) (first x m) h)
+        (subst (λ (l : Link). Backlog q (box .counter) (waiting box) l H) e b))
     step (carrying p left e) same b = send-keeps q (box .counter) (waiting box) _ H p left (k .link-known p left e .some-left) same
         (subst (λ (l : Link). Backlog q (box .counter) (waiting box) l H) e b)
 
@@ -88,5 +92,7 @@ scheduled-moves box next H H′ G G′ k s (joins c n e) =
 scheduled-moves box next H H′ G G′ k s (accepts n units says) =
     scheduled-accepts box H n units says (move-grows {H = H} {G = G} (accepts n units says)) k s
 scheduled-moves box next H H′ G G′ k s (idles go e) = scheduled-steps box H go (move-grows {H = H} {G = G} (idles go e)) k s
-scheduled-moves box next H H′ G G′ k s (sends go p left e l) = scheduled-steps box H go (move-grows {H = H} {G = G} (sends go p left e l)) k s
-scheduled-moves box next H H′ G G′ k s (departs go p left e l) = scheduled-steps box H go (move-grows {H = H} {G = G} (departs go p left e l)) k s
+scheduled-moves box next H H′ G G′ k s (sends go p left e l) =
+    scheduled-steps box H go (move-grows {H = H} {G = G} (sends go p left e l)) k s
+scheduled-moves box next H H′ G G′ k s (departs go p left e l) =
+    scheduled-steps box H go (move-grows {H = H} {G = G} (departs go p left e l)) k s

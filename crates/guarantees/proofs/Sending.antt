@@ -17,12 +17,14 @@ use Rattle.meaning.specs.Step.{linkSent}
 use Rattle.guarantees.proofs.Backlog.{waitingWork, linkWork, linkOther, Backlog}
 
 -- What a sent unit leaves on the link: nothing, or the same packet with a unit less.
-pub sent-cases : (p : Packet) (left : ℕ) → ((left ≤ 1) × (linkSent (carries p left) ≡ free)) ⊎ ((2 ≤ left) × (linkSent (carries p left) ≡ carries p (left - 1)))
+pub sent-cases : (p : Packet) (left : ℕ)
+    → ((left ≤ 1) × (linkSent (carries p left) ≡ free)) ⊎ ((2 ≤ left) × (linkSent (carries p left) ≡ carries p (left - 1)))
 unfolding linkSent
 sent-cases p left = go (leb left 1) refl
   where
     go : (b : Bool) → leb left 1 ≡ b →
-        ((left ≤ 1) × (cond b free (carries p (left - 1)) ≡ free)) ⊎ ((2 ≤ left) × (cond b free (carries p (left - 1)) ≡ carries p (left - 1)))
+        ((left ≤ 1) × (cond b free (carries p (left - 1)) ≡ free)) ⊎
+        ((2 ≤ left) × (cond b free (carries p (left - 1)) ≡ carries p (left - 1)))
     go true e = inl (leb-true left 1 e, refl)
     go false e = inr (leb-false left 1 e, refl)
 
@@ -59,7 +61,8 @@ module _ (q : Packet → Bool) where
       other e =
           inl (let g = given-false (p .units) e in
           let w = sum-zero (λ p. given (q p) (p .units)) W₁
-          (λ x m. given-false (x .units) (⊎-elim (λ (h : q x ≡ true). absurd (true≢false (sym (closed x m h) ∙ e))) (λ h. h) (bool-cases (q x)))) in
+          (λ x m. given-false (x .units)
+          (⊎-elim (λ (h : q x ≡ true). absurd (true≢false (sym (closed x m h) ∙ e))) (λ h. h) (bool-cases (q x)))) in
           omega arith)
 
   -- One unit less is to be sent of what is on the link.
@@ -68,7 +71,8 @@ module _ (q : Packet → Bool) where
       linkWork q (carries p left) + linkOther q (carries p left)) ×
       (linkWork q (linkSent (carries p left)) ≤ linkWork q (carries p left))
   unfolding linkWork linkOther
-  sent-work p left h = ⊎-elim (λ c. rw (c .1) (last (c .0) (bool-cases (q p)))) (λ c. rw (c .1) (more (c .0) (bool-cases (q p)))) (sent-cases p left)
+  sent-work p left h =
+      ⊎-elim (λ c. rw (c .1) (last (c .0) (bool-cases (q p)))) (λ c. rw (c .1) (more (c .0) (bool-cases (q p)))) (sent-cases p left)
     where
       last : left ≤ 1 → (q p ≡ true) ⊎ (q p ≡ false) → (0 + 0 + 1 ≡ given (q p) left + given (not (q p)) left) × (0 ≤ given (q p) left)
       last l (inl e) = let a = given-true left e in let b = given-false left (ap not e) in (omega arith, omega arith)

@@ -20,8 +20,10 @@ use Rattle.meaning.specs.Box.{Box, Link, free, carries, connection, stands, wai
 use Rattle.meaning.specs.Calls.{newBox, allowance, offerAnswer}
 use Rattle.meaning.proofs.Facts.{sound-facts}
 use Rattle.meaning.proofs.KeepsSound.{new-box-sound}
-use Rattle.guarantees.specs.Runs.{Call, Departure, inOrder, slotsOf, WithinEnvelope, timesAmong, timesDeparted, dueBy, boxOf, acceptedOf, departedOf, countFrom, InBox}
-use Rattle.guarantees.proofs.Saying.{OfferRefused, offer-unsound, no-connection, wrong-length, not-fitting, store-full, OfferSays, offer-says}
+use Rattle.guarantees.specs.Runs.{Call, Departure, inOrder, slotsOf, WithinEnvelope, timesAmong, timesDeparted, dueBy, boxOf}
+use Rattle.guarantees.specs.Runs.{acceptedOf, departedOf, countFrom, InBox}
+use Rattle.guarantees.proofs.Saying.{OfferRefused, offer-unsound, no-connection, wrong-length, not-fitting, store-full, OfferSays}
+use Rattle.guarantees.proofs.Saying.{offer-says}
 use Rattle.guarantees.proofs.Effects.{connection-member}
 use Rattle.guarantees.proofs.Metered.{meter-answers}
 use Rattle.guarantees.proofs.OnTime.{in-box-known}
@@ -33,7 +35,8 @@ marks : ℕ → ℕ → ℕ → ℕ → ℕ → ℕ → Bool
 marks s c a serial connection arrival = eqb serial s && (eqb connection c && eqb arrival a)
 
 -- It has these three numbers.
-marks-facts : (s c a serial connection arrival : ℕ) → marks s c a serial connection arrival ≡ true → (serial ≡ s) × (connection ≡ c) × (arrival ≡ a)
+marks-facts : (s c a serial connection arrival : ℕ) → marks s c a serial connection arrival ≡ true
+    → (serial ≡ s) × (connection ≡ c) × (arrival ≡ a)
 unfolding marks
 marks-facts s c a serial connection arrival e =
     let p = and-eq-true-iff (eqb serial s) (eqb connection c && eqb arrival a) .0 e in
@@ -44,7 +47,8 @@ marks-facts s c a serial connection arrival e =
 marks-self : (s c a : ℕ) → marks s c a s c a ≡ true
 unfolding marks
 marks-self s c a =
-    and-eq-true-iff (eqb s s) (eqb c c && eqb a a) .1 (eq-eqb s s refl, and-eq-true-iff (eqb c c) (eqb a a) .1 (eq-eqb c c refl, eq-eqb a a refl))
+    and-eq-true-iff (eqb s s) (eqb c c && eqb a a) .1
+    (eq-eqb s s refl, and-eq-true-iff (eqb c c) (eqb a a) .1 (eq-eqb c c refl, eq-eqb a a refl))
 
 -- A sound box gives 9 to an offer of permitted length whose connection has no credit left.
 nine-given : (box : Box) (n units : ℕ) → sound box ≡ true → stands box n ≡ true → within 1 units (connection box n .longest) ≡ true →
@@ -67,7 +71,8 @@ module _ (set : Settings) (allowed : settingsAllowed set ≡ true) (calls : List
 
   -- And each of them has a length from 1 to s, of a connection that stands.
   pub each-length-permitted : (p : Packet) → List·Memᴰ p (acceptedOf set calls) →
-      (stands (boxOf set calls) (p .connection) ≡ true) × (within 1 (p .units) (connection (boxOf set calls) (p .connection) .longest) ≡ true)
+      (stands (boxOf set calls) (p .connection) ≡ true) ×
+      (within 1 (p .units) (connection (boxOf set calls) (p .connection) .longest) ≡ true)
   unfolding stands
   each-length-permitted p m =
       let f = always set allowed calls .known .packets-ok p m in
@@ -83,7 +88,8 @@ module _ (set : Settings) (allowed : settingsAllowed set ≡ true) (calls : List
       let a = always set allowed calls in
       let r = within-facts 1 n (length (boxOf set calls .standing)) s in
       let c = a .known .connections-ok _ (connection-member box n (r .0) (r .1)) in
-      meter-answers (connection box n) (allowance box n) (slotsOf n (acceptedOf set calls)) (box .counter) (c .period-least) (c .burst-least)
+      meter-answers (connection box n) (allowance box n) (slotsOf n (acceptedOf set calls)) (box .counter) (c .period-least)
+      (c .burst-least)
       (a .metered n (r .0) (r .1))
 
   -- Turned away: an offer of permitted length that fits is refused only with 10, and only when 1,024 packets wait.
@@ -122,13 +128,16 @@ module _ (set : Settings) (allowed : settingsAllowed set ≡ true) (calls : List
       box : Box
       box = boxOf set calls
 
-      forth : offerAnswer box n units ≡ Offered.Refused Refusal.NotFitting → fits (mayHave (connection box n)) (slotsOf n (acceptedOf set calls)) (box .counter) ≡ false
+      forth : offerAnswer box n units ≡ Offered.Refused Refusal.NotFitting
+          → fits (mayHave (connection box n)) (slotsOf n (acceptedOf set calls)) (box .counter) ≡ false
       forth e = sym (record-answers-stretches n s) ∙ not-conforming (rw e at (offer-says box n units))
         where
-          not-conforming : OfferRefused box n units Refusal.NotFitting → conforms (connection box n) (allowance box n) (box .counter) ≡ false
+          not-conforming : OfferRefused box n units Refusal.NotFitting
+              → conforms (connection box n) (allowance box n) (box .counter) ≡ false
           not-conforming (not-fitting u a w c) = c
 
-      back : fits (mayHave (connection box n)) (slotsOf n (acceptedOf set calls)) (box .counter) ≡ false → offerAnswer box n units ≡ Offered.Refused Refusal.NotFitting
+      back : fits (mayHave (connection box n)) (slotsOf n (acceptedOf set calls)) (box .counter) ≡ false
+          → offerAnswer box n units ≡ Offered.Refused Refusal.NotFitting
       back f = nine-given box n units every-run-sound s l (record-answers-stretches n s ∙ f)
 
   -- At most once: every accepted packet is exactly once among waiting, on the link and departed.
@@ -158,7 +167,8 @@ module _ (set : Settings) (allowed : settingsAllowed set ≡ true) (calls : List
 
   -- Every departure is of an accepted packet, with its connection and its arrival.
   pub departed-was-accepted : (g : Departure) → List·Memᴰ g (departedOf set calls) →
-      (p : Packet) × List·Memᴰ p (acceptedOf set calls) × ((p .serial ≡ g .serial) × (p .connection ≡ g .connection) × (p .arrival ≡ g .arrival))
+      (p : Packet) × List·Memᴰ p (acceptedOf set calls) ×
+      ((p .serial ≡ g .serial) × (p .connection ≡ g .connection) × (p .arrival ≡ g .arrival))
   unfolding ofPackets ofDepartures
   departed-was-accepted g m =
       let t : ℕ → ℕ → ℕ → Bool = marks (g .serial) (g .connection) (g .arrival) in
@@ -169,17 +179,21 @@ module _ (set : Settings) (allowed : settingsAllowed set ≡ true) (calls : List
       (f .0, f .1, marks-facts _ _ _ _ _ _ (f .2))
 
   -- Never late: a packet in the box has not reached its bound.
-  pub in-the-box-before-bound : (p : Packet) → InBox (boxOf set calls) p → boxOf set calls .counter < dueBy (boxOf set calls) (p .connection) (p .arrival)
+  pub in-the-box-before-bound : (p : Packet) → InBox (boxOf set calls) p
+      → boxOf set calls .counter < dueBy (boxOf set calls) (p .connection) (p .arrival)
   in-the-box-before-bound = always set allowed calls .on-time .in-box
 
   -- Every reported departure slot is at most arrival plus bound.
-  pub departs-by-its-bound : (g : Departure) → List·Memᴰ g (departedOf set calls) → g .departure ≤ dueBy (boxOf set calls) (g .connection) (g .arrival)
+  pub departs-by-its-bound : (g : Departure) → List·Memᴰ g (departedOf set calls)
+      → g .departure ≤ dueBy (boxOf set calls) (g .connection) (g .arrival)
   departs-by-its-bound g m = always set allowed calls .on-time .departed g m .2
 
   -- Never late: when the slot counter reaches an accepted packet's arrival plus its class's bound, the packet is departed, and it
   -- departed by then, whatever the other connections offer.
-  pub never-late : (p : Packet) → List·Memᴰ p (acceptedOf set calls) → dueBy (boxOf set calls) (p .connection) (p .arrival) ≤ boxOf set calls .counter →
-      (g : Departure) × List·Memᴰ g (departedOf set calls) × ((g .serial ≡ p .serial) × (g .connection ≡ p .connection) × (g .arrival ≡ p .arrival)) ×
+  pub never-late : (p : Packet) → List·Memᴰ p (acceptedOf set calls)
+      → dueBy (boxOf set calls) (p .connection) (p .arrival) ≤ boxOf set calls .counter →
+      (g : Departure) × List·Memᴰ g (departedOf set calls) ×
+      ((g .serial ≡ p .serial) × (g .connection ≡ p .connection) × (g .arrival ≡ p .arrival)) ×
       (g .departure ≤ dueBy (boxOf set calls) (p .connection) (p .arrival))
   never-late p m due = (
     found .0,
@@ -207,7 +221,9 @@ module _ (set : Settings) (allowed : settingsAllowed set ≡ true) (calls : List
           (λ e. e) (bool-cases (t (x .serial) (x .connection) (x .arrival)))
 
       none-waits : ofPackets (λ s c a. given (t s c a) 1) (waiting box) ≡ 0
-      none-waits = unfold ofPackets in sum-zero (λ x. given (t (x .serial) (x .connection) (x .arrival)) 1) (waiting box) (λ x n. given-false 1 (not-inside x (inl n)))
+      none-waits =
+          unfold ofPackets in
+          sum-zero (λ x. given (t (x .serial) (x .connection) (x .arrival)) 1) (waiting box) (λ x n. given-false 1 (not-inside x (inl n)))
 
       none-carried : (l : Link) → box .link ≡ l → ofPackets (λ s c a. given (t s c a) 1) (onLink l) ≡ 0
       none-carried free e = unfold ofPackets onLink sumOf in refl

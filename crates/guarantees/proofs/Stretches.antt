@@ -67,8 +67,10 @@ fitting-keeps c period at slots d f w x t = go (within x at (x + t)) refl
         let l = r .0 in
         let h = r .1 in
         let s = count-shrinks at at x (x + t) (at ∷ slots) (omega arith, d) (omega arith) in
-        let m = leb-true (countIn (at ∷ slots) x at) (mayHave c (at - x)) (everyBelow-at (λ x. leb (countIn (at ∷ slots) x at) (mayHave c (at - x))) (suc at) f x (omega arith)) in
-        let v : mayHave c (at - x) ≤ mayHave c t = unfold mayHave in (let q = div-mono {m = at - x} {n = t} (c .period) period (omega arith) in omega arith) in
+        let m = leb-true (countIn (at ∷ slots) x at) (mayHave c (at - x))
+        (everyBelow-at (λ x. leb (countIn (at ∷ slots) x at) (mayHave c (at - x))) (suc at) f x (omega arith)) in
+        let v : mayHave c (at - x) ≤ mayHave c t =
+        unfold mayHave in (let q = div-mono {m = at - x} {n = t} (c .period) period (omega arith) in omega arith) in
         omega arith
 
 -- Packets of at most s units each: their units are at most s times their count.
@@ -82,7 +84,8 @@ units-count (p ∷ H) j s x y h =
     rw a (go (eqb (p .connection) j) refl (within x (p .arrival) y) refl i)
   where
     go : (b : Bool) → eqb (p .connection) j ≡ b → (c : Bool) → within x (p .arrival) y ≡ c →
-        sumOf (λ p. given (eqb (p .connection) j && within x (p .arrival) y) (p .units)) H ≤ s * sumOf (λ a. cond (within x a y) 1 0) (slotsOf j H) →
+        sumOf (λ p. given (eqb (p .connection) j && within x (p .arrival) y) (p .units)) H ≤ s * sumOf (λ a. cond (within x a y) 1 0)
+        (slotsOf j H) →
         given (b && c) (p .units) + sumOf (λ p. given (eqb (p .connection) j && within x (p .arrival) y) (p .units)) H ≤
         s * (sumOf (λ a. cond (within x a y) 1 0) (slotsOf j H) + sumOf (λ a. cond (within x a y) 1 0) (cond b (p .arrival ∷ []) []))
     go true e true f i =

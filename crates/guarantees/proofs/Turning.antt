@@ -23,7 +23,8 @@ use Rattle.guarantees.proofs.Saying.{StepRefused, step-unsound, counter
 use Rattle.guarantees.proofs.Statements.{every-run-sound, in-the-box-before-bound}
 
 -- A packet that is in tag 0 once the next one is taken waits, and was in tag 0.
-left-in-tag-zero : (box : Box) (qs : List (List Packet)) (l : Link) → inTheirQueues box 0 qs ≡ true → tagZeroWaits (queuesTaken l qs) ≡ true →
+left-in-tag-zero : (box : Box) (qs : List (List Packet)) (l : Link) → inTheirQueues box 0 qs ≡ true
+    → tagZeroWaits (queuesTaken l qs) ≡ true →
     (p : Packet) × List·Memᴰ p (flatten qs) × (rankIn box p ≡ box .counter / box .settings .interval + 0)
 unfolding queuesTaken tagZeroWaits withoutLowestHead inTheirQueues flatten
 left-in-tag-zero box [] free e t = absurd (true≢false (sym t))
@@ -70,7 +71,8 @@ module _ (set : Settings) (allowed : settingsAllowed set ≡ true) (calls : List
           omega arith
 
   -- A step of a run raises the counter until it ends: no other answer refuses it.
-  pub step-goes-on : boxOf set calls .counter < lastSlot → afterStep (boxOf set calls) (stepAnswer (boxOf set calls)) .counter ≡ suc (boxOf set calls .counter)
+  pub step-goes-on : boxOf set calls .counter < lastSlot
+      → afterStep (boxOf set calls) (stepAnswer (boxOf set calls)) .counter ≡ suc (boxOf set calls .counter)
   step-goes-on h = go (stepAnswer (boxOf set calls)) refl (step-says (boxOf set calls))
     where
       box : Box

@@ -37,8 +37,11 @@ one-less p left h = ⊎-elim (λ c. rw (c .1) (let l = c .0 in omega arith)) (λ
 -- A packet that waits in a sound box has a unit to send; so has the one on the link.
 waiting-unit : (box : Box) → sound box ≡ true → (p : Packet) → List·Memᴰ p (waiting box) → 1 ≤ p .units
 unfolding packets
-waiting-unit box s p m = packet-facts box p (every-at (packetKept box) (packets box) (sound-facts box s .packets-kept) (Memᴰ·append-left (onLink (box .link)) m)) .units-least
+waiting-unit box s p m =
+    packet-facts box p (every-at (packetKept box) (packets box) (sound-facts box s .packets-kept)
+    (Memᴰ·append-left (onLink (box .link)) m)) .units-least
 
+-- A link that carries a packet in a sound box has a unit left to send.
 link-unit : (box : Box) → sound box ≡ true → (p : Packet) (left : ℕ) → box .link ≡ carries p left → 1 ≤ left
 unfolding linkKept
 link-unit box s p left e = within-facts 1 left (p .units - 1) (subst (λ l. linkKept l ≡ true) e (sound-facts box s .link-kept)) .0
@@ -56,7 +59,10 @@ found box s l W (takes p rest e put there others first) =
     let o = one-less p (p .units) (waiting-unit box s p there) in
     let b : leftOn (box .link) ≡ 0 = ap leftOn e in
     omega arith
-found box s l W (carrying p left e) = let o = one-less p left (link-unit box s p left e) in let b : leftOn (box .link) ≡ left = ap leftOn e in omega arith
+found box s l W (carrying p left e) =
+    let o = one-less p left (link-unit box s p left e) in
+    let b : leftOn (box .link) ≡ left = ap leftOn e in
+    omega arith
 
 -- The unit sent is accounted for exactly once.
 pub unit-accounted : (box : Box) → sound box ≡ true → toSend box ≡ toSend (moved box) + unitsSent (linkTaken (box .link) (box .queues))

@@ -25,12 +25,15 @@ unfoldable pub gain : Settings → Connection → ℕ
 gain set c = c .longest * (set .cycle / c .period)
 
 -- Equation (31) has the laws of an envelope.
-pub envelope-laws : (set : Settings) (c : Connection) → ConnectionFacts set c → IsEnvelope (envelope c) (c .longest) (set .cycle) (gain set c)
+pub envelope-laws : (set : Settings) (c : Connection) → ConnectionFacts set c
+    → IsEnvelope (envelope c) (c .longest) (set .cycle) (gain set c)
 unfolding envelope mayHave gain
 envelope-laws set c f =
     record {
       neverFalls = λ t u h. mul-le-mul-left (c .longest) (let d = div-mono (c .period) (f .period-least) h in omega arith);
-      atStart = let m = mul-le-mul-left {m = 1} {n = c .burst + 0 / c .period} (c .longest) (let b = f .burst-least in omega arith) in omega arith;
+      atStart =
+          let m = mul-le-mul-left {m = 1} {n = c .burst + 0 / c .period} (c .longest) (let b = f .burst-least in omega arith) in
+          omega arith;
       repeats = λ t. let d = div-add-multiple t (set .cycle) (c .period) (f .period-least) (f .period-divides) in
           ap (λ n. c .longest * (c .burst + n)) d ∙ (omega arith);
     }
@@ -71,36 +74,39 @@ condition-test set cs t f =
     out-or-in false b h = refl
 
 -- A set of connections in a box that keep the table of numbers, with the envelopes of (31).
-module _ (set : Settings) (sf : SettingsFacts set) (cs : List Connection) (facts : (c : Connection) → List·Memᴰ c cs → ConnectionFacts set c) where
-  -- Every bound is at most dP.
-  reach : (c : Connection) → List·Memᴰ c cs → bound set (c .class) ≤ largestBound set
-  reach c m = let f = facts c m in bound-most set sf (c .class) (f .class-least) (f .class-most)
+module _ (set : Settings) (sf : SettingsFacts set) (cs : List Connection)
+    (facts : (c : Connection) → List·Memᴰ c cs → ConnectionFacts set c)
+  where
+    -- Every bound is at most dP.
+    reach : (c : Connection) → List·Memᴰ c cs → bound set (c .class) ≤ largestBound set
+    reach c m = let f = facts c m in bound-most set sf (c .class) (f .class-least) (f .class-most)
 
-  -- Every envelope has the laws.
-  laws : (c : Connection) → List·Memᴰ c cs → IsEnvelope (envelope c) (c .longest) (set .cycle) (gain set c)
-  laws c m = envelope-laws set c (facts c m)
+    -- Every envelope has the laws.
+    laws : (c : Connection) → List·Memᴰ c cs → IsEnvelope (envelope c) (c .longest) (set .cycle) (gain set c)
+    laws c m = envelope-laws set c (facts c m)
 
-  -- "all t follow from t = 0 to dP + M - 1, because each envelope repeats with M."
-  pub all-slots-follow : rateHolds set cs ≡ true →
-      ((t : ℕ) → t < largestBound set + set .cycle → conditionAt set cs t ≡ true) → HoldsWithoutEnd set cs
-  all-slots-follow r h t =
-      condition-test set cs t (record {
-        eleven-holds = unfold sumAt term rate rateHolds gain in
-            sums-follow envelope (gain set) set cs reach laws (leb-true _ _ r) (sf .cycle-least)
-            (λ k l. condition-facts set cs k (h k l) .eleven-holds) t;
-        twelve-holds = λ a b. condition-facts set cs t (h t (omega arith)) .twelve-holds a b;
-      })
+    -- "all t follow from t = 0 to dP + M - 1, because each envelope repeats with M."
+    pub all-slots-follow : rateHolds set cs ≡ true →
+        ((t : ℕ) → t < largestBound set + set .cycle → conditionAt set cs t ≡ true) → HoldsWithoutEnd set cs
+    all-slots-follow r h t =
+        condition-test set cs t (record {
+          eleven-holds = unfold sumAt term rate rateHolds gain in
+              sums-follow envelope (gain set) set cs reach laws (leb-true _ _ r) (sf .cycle-least)
+              (λ k l. condition-facts set cs k (h k l) .eleven-holds) t;
+          twelve-holds = λ a b. condition-facts set cs t (h t (omega arith)) .twelve-holds a b;
+        })
 
-  -- "if the rate exceeds M, some t fails."
-  pub some-slot-fails : rateHolds set cs ≡ false → (t : ℕ) × (conditionAt set cs t ≡ false)
-  some-slot-fails r = (passes .0, failing (passes .0) (passes .1))
-    where
-      passes : (t : ℕ) × (t < sumAt set cs t)
-      passes = unfold sumAt term rate rateHolds gain in sums-pass envelope (gain set) set cs reach laws (leb-false _ _ r)
+    -- "if the rate exceeds M, some t fails."
+    pub some-slot-fails : rateHolds set cs ≡ false → (t : ℕ) × (conditionAt set cs t ≡ false)
+    some-slot-fails r = (passes .0, failing (passes .0) (passes .1))
+      where
+        passes : (t : ℕ) × (t < sumAt set cs t)
+        passes = unfold sumAt term rate rateHolds gain in sums-pass envelope (gain set) set cs reach laws (leb-false _ _ r)
 
-      failing : (t : ℕ) → t < sumAt set cs t → conditionAt set cs t ≡ false
-      failing t h =
-          ⊎-elim (λ e. absurd (let f = condition-facts set cs t e .eleven-holds in omega arith)) (λ e. e) (bool-cases (conditionAt set cs t))
+        failing : (t : ℕ) → t < sumAt set cs t → conditionAt set cs t ≡ false
+        failing t h =
+            ⊎-elim (λ e. absurd (let f = condition-facts set cs t e .eleven-holds in omega arith)) (λ e. e)
+            (bool-cases (conditionAt set cs t))
 
 -- Taking a connection out of a set never makes a condition fail that held.
 pub taking-out-keeps : (set : Settings) (l : List Connection) (c : Connection) (m : List Connection) (t : ℕ) →

@@ -3,7 +3,8 @@ use mathlib.Core.Path.{_≡_, refl}
 use mathlib.Core.List.{List, [], _∷_}
 use Rattle.meaning.specs.Numbers.{Settings}
 use Rattle.meaning.proofs.Computed.{definitions}
-use Rattle.guarantees.specs.Runs.{Call, admit, offer, step, reply, after, trace, offerTaken, packetTaken, acceptedIn, stepLeft, packetLeft, departedIn, acceptedOf, departedOf}
+use Rattle.guarantees.specs.Runs.{Call, admit, offer, step, reply, after, trace, offerTaken, packetTaken, acceptedIn, stepLeft}
+use Rattle.guarantees.specs.Runs.{packetLeft, departedIn, acceptedOf, departedOf}
 
 -- D = 4, M = 8, factors 1 and 2.
 abbrev pub opening : Settings

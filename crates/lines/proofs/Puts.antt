@@ -1,32 +1,38 @@
 -- Laws of bytes put into a buffer: one after another, and one byte.
 use Prim.Native.Nat.{ℕ, suc, _+_, _/_, _%_, _≤_, _<_}
 use mathlib.Core.Path.{_≡_, refl, sym, ap, _∙_, subst}
-use mathlib.Core.List.{List, [], _∷_, _++_, append-assoc, append-nil}
-use native.Mathlib.Numerals.{add-one}
+use mathlib.Core.List.{List, [], _∷_, _++_, append-assoc}
 use native.Mathlib.Omega.{arith}
-use lib.ListN.{length, take, drop, set, length-append, length-take, length-drop, take-append-drop}
+use lib.ListN.{length, take, drop, set, length-append, take-append-drop}
 use lib.Seq.{set-split, take-at, drop-at, length-take-le, drop-drop, take-length, paste, length-paste}
 use Rattle.meaning.specs.Lines.{digit, decimal}
 use Rattle.meaning.proofs.Decimal.{decimal-small, decimal-large}
 use Rattle.lines.specs.Put.{putAt, Room, Put}
 
+-- Bytes that are pasted whole are put.
 pub put-paste : (out : List ℕ) (at : ℕ) (s : List ℕ) → paste out at s (length s) ≡ putAt out at s
 unfolding putAt
 put-paste out at s = ap (λ l. take at out ++ l ++ drop (at + length s) out) (take-length s)
 
+-- Putting bytes for which there is room keeps the length.
 pub length-put : (out : List ℕ) (at : ℕ) (s : List ℕ) → Room out at s → length (putAt out at s) ≡ length out
 length-put out at s h = ap length (sym (put-paste out at s)) ∙ length-paste out at s (length s) h (omega arith)
 
+-- Writing a byte puts it.
 pub put-one : (out : List ℕ) (at v : ℕ) → at < length out → set out at v ≡ putAt out at (v ∷ [])
 unfolding putAt
-put-one out at v h = set-split out at v h ∙ (let e : suc at ≡ at + 1 = omega arith in ap (λ k. take at out ++ v ∷ drop k out) e) ∙ sym (append-assoc (take at out) (v ∷ []) (drop (at + 1) out))
+put-one out at v h =
+    set-split out at v h ∙ (let e : suc at ≡ at + 1 = omega arith in ap (λ k. take at out ++ v ∷ drop k out) e) ∙
+    sym (append-assoc (take at out) (v ∷ []) (drop (at + 1) out))
 
+-- Putting nothing changes nothing.
 pub put-nothing : (out : List ℕ) (at : ℕ) → putAt out at [] ≡ out
 unfolding putAt
 put-nothing out at =
     let e : at + 0 ≡ at = omega arith in
     append-assoc (take at out) [] (drop (at + 0) out) ∙ ap (λ k. take at out ++ drop k out) e ∙ take-append-drop at out
 
+-- Putting bytes and then others behind them puts both.
 pub put-put : (out : List ℕ) (at : ℕ) (s t : List ℕ) → at + length s + length t ≤ length out
     → putAt (putAt out at s) (at + length s) t ≡ putAt out at (s ++ t)
 unfolding putAt
@@ -46,7 +52,8 @@ put-put out at s t h =
     ap (λ l. l ++ drop (at + length (s ++ t)) out) (append-assoc (take at out) s t)
 
 -- One put after another.
-pub then : {a b c : List ℕ} {at next last : ℕ} {s t : List ℕ} → Put a b at s next → Put b c next t last → Room a at (s ++ t) → Put a c at (s ++ t) last
+pub then : {a b c : List ℕ} {at next last : ℕ} {s t : List ℕ} → Put a b at s next → Put b c next t last → Room a at (s ++ t)
+    → Put a c at (s ++ t) last
 then {a} {b} {c} {at} {next} {last} {s} {t} p q h =
     let n = p .place in
     let l = length-append s t in
@@ -65,9 +72,11 @@ room-after {a} {b} {at} {next} {s} t p h =
     let e : length b ≡ length a = ap length (p .bytes) ∙ length-put a at s (omega arith) in
     omega arith
 
+-- Room for two is room for the first.
 pub room-first : (a : List ℕ) (at : ℕ) (s t : List ℕ) → Room a at (s ++ t) → Room a at s
 room-first a at s t h = let l = length-append s t in omega arith
 
+-- A put keeps the length.
 pub put-length : {a b : List ℕ} {at next : ℕ} {s : List ℕ} → Put a b at s next → Room a at s → length b ≡ length a
 put-length {a} {b} {at} {next} {s} p h = ap length (p .bytes) ∙ length-put a at s h
 
@@ -77,31 +86,39 @@ put-byte out at v h = record { bytes = put-one out at v (omega arith); place = r
 
 -- Numbers: below ten, and from ten on.
 module _ (out : List ℕ) (at n : ℕ) (room : Room out at (decimal n)) where
+  -- There is room for the digit of a number below ten.
   pub small-room : n < 10 → Room out at ((48 + n) ∷ [])
   unfolding digit
   small-room h = subst (λ l. Room out at l) (decimal-small n h) room
 
+  -- Its digit puts it.
   pub small-put : n < 10 → Put out (set out at (48 + n)) at (decimal n) (at + 1)
   unfolding digit
   small-put h = subst (λ l. Put out (set out at (48 + n)) at l (at + 1)) (sym (decimal-small n h)) (put-byte out at (48 + n) (small-room h))
 
+  -- The digits of the number divided by ten.
   abbrev digits : List ℕ
   digits = decimal (n / 10)
 
+  -- There is room for them and the last digit.
   large-room : 10 ≤ n → Room out at (digits ++ ((48 + n % 10) ∷ []))
   unfolding digit
   large-room h = subst (λ l. Room out at l) (decimal-large n h) room
 
+  -- There is room for them.
   pub tenth-room : 10 ≤ n → Room out at (decimal (n / 10))
   tenth-room h = room-first out at digits ((48 + n % 10) ∷ []) (large-room h)
 
   module _ {after : List ℕ} {last : ℕ} (p : Put out after at (decimal (n / 10)) last) (h : 10 ≤ n) where
+    -- Then there is room for the last digit.
     pub last-room : last + 1 ≤ length after
     last-room = room-after ((48 + n % 10) ∷ []) p (large-room h)
 
+    -- The length is kept.
     pub large-length : length after ≡ length out
     large-length = put-length p (tenth-room h)
 
+    -- They and the last digit put the number.
     pub large-put : Put out (set after last (48 + n % 10)) at (decimal n) (last + 1)
     unfolding digit
     large-put =

@@ -46,7 +46,8 @@ reached-start out start whole = record { done = []; put = put-none out start; jo
 
 -- The rest, said in another way.
 pub reached-as :
-    {before now : List ℕ} {start : ℕ} {whole rest : List ℕ} {at : ℕ} (other : List ℕ) → rest ≡ other → Reached before now start whole rest at
+    {before now : List ℕ} {start : ℕ} {whole rest : List ℕ} {at : ℕ} (other : List ℕ) → rest ≡ other
+    → Reached before now start whole rest at
     → Reached before now start whole other at
 reached-as {before} {now} {start} {whole} {rest} {at} other e r = subst (λ l. Reached before now start whole l at) e r
 

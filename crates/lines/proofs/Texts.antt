@@ -7,7 +7,7 @@ use mathlib.Core.List.{List, [], _∷_, _++_, append-assoc, append-nil}
 use native.Mathlib.Numerals.{add-one}
 use native.Mathlib.Omega.{arith}
 use borrow.Author.Tests.{lt-ltb}
-use lib.Dec.{ltb, leb·suc-suc}
+use lib.Dec.{leb·suc-suc}
 use lib.ListN.{length, getD, drop}
 use Rattle.meaning.specs.Lines.{ascii, decimal, numbersText, lineOf}
 use Rattle.lines.specs.Put.{field, byteAfter, fields, line}

@@ -1,9 +1,7 @@
 // One line of output into a lent buffer: a fixed word and its numbers. Document 01, "The program and one whole run".
 ghost use mathlib.Core.Path.{_≡_};
-ghost use Prim.Native.Nat.{_+_, _<_, _≤_};
-ghost use mathlib.Core.List.{[], _∷_};
-ghost use lib.ListN.{length};
-ghost use Rattle.meaning.specs.Lines.{ascii, decimal, lineText};
+ghost use Prim.Native.Nat.{_+_, _<_};
+ghost use Rattle.meaning.specs.Lines.{decimal, lineText};
 ghost use Rattle.meaning.specs.Run.{admitLine, offerLine, departLine, endLine, refusedLine, stopLine};
 ghost use Rattle.lines.specs.Put.{Put, Room, field, byteAfter, fields, line};
 

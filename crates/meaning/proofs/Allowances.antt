@@ -1,10 +1,10 @@
 -- The allowance record as one number v: fresh it is 0, an accepted packet at slot a makes it max(v, a) + T, and a packet fits exactly
 -- where v + T is at most now + b x T. The record (next, credit) is that number in two digits.
 use Prim.Native.Nat.{ℕ, zero, suc, _+_, _*_, _-_, _/_, _≤_, _<_, max}
-use mathlib.Core.Path.{_≡_, refl, sym, ap, _∙_}
-use mathlib.Core.Bool.{Bool, true, false, cond, _&&_, _||_, and-eq-true-iff}
+use mathlib.Core.Path.{_≡_, refl, ap, _∙_}
+use mathlib.Core.Bool.{true, _&&_, and-eq-true-iff}
 use mathlib.Core.Logic.{_⊎_, _↔_, inl, inr, ⊎-elim}
-use native.Mathlib.Nat.{mul-le-mul-right, div-mul-le-self, lt-div-mul-add, max-eq-left, max-eq-right, suc-mul, add-mul}
+use native.Mathlib.Nat.{mul-le-mul-right, div-mul-le-self, lt-div-mul-add, max-eq-left, max-eq-right, suc-mul}
 use native.Mathlib.Omega.{arith}
 use lib.Dec.{leb, ltb, eqb}
 use borrow.Author.Tests.{leb-true, leb-false, le-leb, lt-leb, eqb-true, eq-eqb, ne-eqb, ltb-true, lt-ltb}
@@ -48,6 +48,7 @@ kept-means c at a e =
     ))
     (or-cases (eqb (a .credit) (c .burst) && eqb (a .next) 0) (ltb (a .credit) (c .burst) && within 1 (a .next) (at + c .period)) e)
 
+-- A record that stands for some number is in the range of an allowance.
 pub means-kept : (c : Connection) (at : ℕ) (a : Allowance) (v : ℕ) → Means c at a v → allowanceKept c at a ≡ true
 unfolding allowanceKept
 means-kept c at a v (inl f) =
@@ -62,7 +63,12 @@ means-kept c at a v (inr u) =
 pub means-later : (c : Connection) (at later : ℕ) (a : Allowance) (v : ℕ) → at ≤ later → Means c at a v → Means c later a v
 means-later c at later a v h (inl f) = inl f
 means-later c at later a v h (inr u) =
-    inr (record { credit-most = u .credit-most; next-least = u .next-least; next-most = (let x = u .next-most in omega arith); number-is = u .number-is })
+    inr (record {
+      credit-most = u .credit-most;
+      next-least = u .next-least;
+      next-most = (let x = u .next-most in omega arith);
+      number-is = u .number-is;
+    })
 
 -- A fresh allowance stands for 0.
 pub full-means : (c : Connection) (at : ℕ) → Means c at (full c) 0
@@ -86,6 +92,7 @@ pub refilled-some : (c : Connection) (at : ℕ) (a : Allowance) → a .credit + 
 unfolding refilled
 refilled-some c at a h = rw (lt-leb (c .burst) (a .credit + cameBack c a at) h) refl
 
+-- Where the credits that came back fill the record, it is full.
 pub refilled-all : (c : Connection) (at : ℕ) (a : Allowance) → c .burst ≤ a .credit + cameBack c a at → refilled c a at ≡ full c
 unfolding refilled
 refilled-all c at a h = rw (le-leb (c .burst) (a .credit + cameBack c a at) h) refl
@@ -95,15 +102,17 @@ pub none-back : (c : Connection) (at : ℕ) (a : Allowance) → at < a .next →
 unfolding cameBack
 none-back c at a h = rw (lt-leb (a .next) at h) refl
 
+-- From the slot `next` on, one credit has come back and one more after each T.
 pub some-back : (c : Connection) (at : ℕ) (a : Allowance) → a .next ≤ at → cameBack c a at ≡ suc ((at - a .next) / c .period)
 unfolding cameBack
 some-back c at a h = rw (le-leb (a .next) at h) refl
 
--- what is used of the credits that came back: their slots have passed, and the next one's has not
+-- What is used of the credits that came back: their slots have passed, and the next one's has not.
 record Back (c : Connection) (at : ℕ) (a : Allowance) : Type 0 where
   reached : 1 ≤ cameBack c a at → a .next + cameBack c a at * c .period ≤ at + c .period
   ahead : at < a .next + cameBack c a at * c .period
 
+-- The slots of the credits that came back have passed, and that of the next one has not.
 back : (c : Connection) (at : ℕ) (a : Allowance) → 1 ≤ c .period → Back c at a
 back c at a h = ⊎-elim came (λ f. waits (leb-false _ _ f)) (bool-cases (leb (a .next) at))
   where
@@ -123,13 +132,15 @@ back c at a h = ⊎-elim came (λ f. waits (leb-false _ _ f)) (bool-cases (leb (
         let k : cameBack c a at * c .period ≡ 0 = ap (λ n. n * c .period) e ∙ native.Mathlib.Nat.zero-mul (c .period) in
         record { reached = λ (x : 1 ≤ cameBack c a at). omega arith; ahead = omega arith }
 
+-- A record that stands for v is refilled in one of the two ways.
 pub refill : (c : Connection) (at : ℕ) (a : Allowance) (v : ℕ) → 1 ≤ c .period → Means c at a v → Refilled c at a v
 refill c at a v h (inl f) =
     let z : a .next ≤ at = (let x = f .next-is in omega arith) in
     let r = f .credit-is in
     let n = f .number-is in
     all (refilled-all c at a (omega arith)) (omega arith)
-refill c at a v h (inr u) = ⊎-elim (λ t. filled (leb-true _ _ t)) (λ f. fewer (leb-false _ _ f)) (bool-cases (leb (c .burst) (a .credit + cameBack c a at)))
+refill c at a v h (inr u) =
+    ⊎-elim (λ t. filled (leb-true _ _ t)) (λ f. fewer (leb-false _ _ f)) (bool-cases (leb (c .burst) (a .credit + cameBack c a at)))
   where
     b : Back c at a
     b = back c at a h
@@ -151,10 +162,12 @@ refill c at a v h (inr u) = ⊎-elim (λ t. filled (leb-true _ _ t)) (λ f. fewe
         let m = u .next-most in
         let g = b .ahead in
         let k = mul-le-mul-right (c .period) l in
-        let kc : suc (refilled c a at .credit) * c .period ≡ suc (a .credit + cameBack c a at) * c .period = ap (λ x. suc x * c .period) ec in
+        let kc : suc (refilled c a at .credit) * c .period ≡ suc (a .credit + cameBack c a at) * c .period =
+        ap (λ x. suc x * c .period) ec in
         let top : a .next + cameBack c a at * c .period ≤ at + c .period =
         ⊎-elim (λ (x : 1 ≤ cameBack c a at). b .reached x)
-        (λ (x : cameBack c a at ≡ 0). let y : cameBack c a at * c .period ≡ 0 = ap (λ n. n * c .period) x ∙ native.Mathlib.Nat.zero-mul (c .period) in omega arith)
+        (λ (x : cameBack c a at ≡ 0). let y : cameBack c a at * c .period ≡ 0 = ap (λ n. n * c .period) x ∙
+        native.Mathlib.Nat.zero-mul (c .period) in omega arith)
         (one-or-none (cameBack c a at)) in
         some (omega arith) (omega arith) (omega arith) (omega arith) (omega arith)
       where
@@ -178,12 +191,14 @@ conforms-exactly c at a v h k m = go (refill c at a v h m)
       λ y. le-leb 1 (refilled c a at .credit) (at-least (refilled c a at .credit) n y),
     )
       where
-        at-least : (r : ℕ) → v + suc r * c .period ≡ refilled c a at .next + c .burst * c .period → v + c .period ≤ at + c .burst * c .period → 1 ≤ r
+        at-least : (r : ℕ) → v + suc r * c .period ≡ refilled c a at .next + c .burst * c .period
+            → v + c .period ≤ at + c .burst * c .period → 1 ≤ r
         at-least zero e y = omega arith
         at-least (suc r) e y = omega arith
 
 -- An accepted packet makes the number max(v, now) + T.
-pub charged-means : (c : Connection) (at : ℕ) (a : Allowance) (v : ℕ) → 1 ≤ c .period → 1 ≤ c .burst → Means c at a v → conforms c a at ≡ true
+pub charged-means : (c : Connection) (at : ℕ) (a : Allowance) (v : ℕ) → 1 ≤ c .period → 1 ≤ c .burst → Means c at a v
+    → conforms c a at ≡ true
     → Means c at (charged c a at) (max v at + c .period)
 unfolding charged conforms full
 charged-means c at a v h k m y = go (refill c at a v h m)
@@ -196,24 +211,39 @@ charged-means c at a v h k m y = go (refill c at a v h m)
         let r : refilled c a at .credit ≡ c .burst = ap (λ x. x .credit) e in
         let b = less-one (c .burst) k in
         rw (eq-eqb (refilled c a at .credit) (c .burst) r)
-        (inr (record { credit-most = omega arith; next-least = omega arith; next-most = omega arith; number-is = omega (arith, max-eq-right l) }))
+        (inr (record {
+          credit-most = omega arith;
+          next-least = omega arith;
+          next-most = omega arith;
+          number-is = omega
+              (arith, max-eq-right l);
+        }))
     go (some l g t w n) =
         let o : 1 ≤ refilled c a at .credit = leb-true 1 (refilled c a at .credit) y in
         let b = less-one (refilled c a at .credit) o in
         rw (ne-eqb (refilled c a at .credit) (c .burst) (λ q. omega arith))
-        (inr (record { credit-most = omega arith; next-least = omega arith; next-most = omega arith; number-is = omega (arith, max-eq-left w) }))
+        (inr (record {
+          credit-most = omega arith;
+          next-least = omega arith;
+          next-most = omega arith;
+          number-is = omega
+              (arith, max-eq-left w);
+        }))
 
 -- The range of an allowance is kept by a charge, and as the slots pass.
-pub charged-kept : (c : Connection) (at : ℕ) (a : Allowance) → 1 ≤ c .period → 1 ≤ c .burst → allowanceKept c at a ≡ true → conforms c a at ≡ true
+pub charged-kept : (c : Connection) (at : ℕ) (a : Allowance) → 1 ≤ c .period → 1 ≤ c .burst → allowanceKept c at a ≡ true
+    → conforms c a at ≡ true
     → allowanceKept c at (charged c a at) ≡ true
 charged-kept c at a h k e y =
     let m = kept-means c at a e in
     means-kept c at (charged c a at) (max (m .0) at + c .period) (charged-means c at a (m .0) h k (m .1) y)
 
+-- An allowance in range stays in range as the slots pass.
 pub kept-later : (c : Connection) (at later : ℕ) (a : Allowance) → at ≤ later → allowanceKept c at a ≡ true → allowanceKept c later a ≡ true
 kept-later c at later a l e =
     let m = kept-means c at a e in
     means-kept c later a (m .0) (means-later c at later a (m .0) l (m .1))
 
+-- A full allowance is in range.
 pub full-kept : (c : Connection) (at : ℕ) → allowanceKept c at (full c) ≡ true
 full-kept c at = means-kept c at (full c) 0 (full-means c at)

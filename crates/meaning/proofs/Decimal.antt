@@ -3,20 +3,18 @@ use Prim.Native.Nat.{ℕ, zero, suc, _/_, _%_, _≤_, _<_}
 use mathlib.Core.Path.{_≡_, refl, sym, ap, _∙_}
 use mathlib.Core.Bool.{Bool, true, false}
 use mathlib.Core.List.{List, [], _∷_, _++_}
-use mathlib.Core.Logic.{⊎-elim}
 use native.Mathlib.Omega.{arith}
 use lib.Dec.{ltb}
-use borrow.Author.Tests.{lt-ltb, le-ltb, ltb-true, ltb-false}
-use Rattle.laws.specs.Tests.{bool-cases}
+use borrow.Author.Tests.{lt-ltb, le-ltb, ltb-false}
 use Rattle.meaning.specs.Lines.{digit, digitsBy, decimal}
 
--- a number below ten is one digit, whatever the bound
+-- A number below ten is one digit, whatever the bound.
 one-digit : (k n : ℕ) → n < 10 → digitsBy k (ltb n 10) n ≡ digit n ∷ []
 unfolding digitsBy
 one-digit zero n h = refl
 one-digit (suc k) n h = rw (lt-ltb n 10 h) refl
 
--- two bounds that are enough give the same digits
+-- Two bounds that are enough give the same digits.
 enough : (k m n : ℕ) → n ≤ k → n ≤ m → digitsBy k (ltb n 10) n ≡ digitsBy m (ltb n 10) n
 unfolding digitsBy
 enough zero m n h l = one-digit zero n (omega arith) ∙ sym (one-digit m n (omega arith))
@@ -36,6 +34,7 @@ pub decimal-small : (n : ℕ) → n < 10 → decimal n ≡ digit n ∷ []
 unfolding decimal
 decimal-small n h = one-digit n n h
 
+-- The digits of a number from ten on are those of its tenth, and its last digit.
 pub decimal-large : (n : ℕ) → 10 ≤ n → decimal n ≡ decimal (n / 10) ++ (digit (n % 10) ∷ [])
 unfolding decimal digitsBy
 decimal-large zero h = absurd (let z = h in omega arith)

@@ -1,15 +1,18 @@
 -- The tests of document 01 and the facts that they decide, both ways: the table of numbers, and soundness.
-use Prim.Native.Nat.{ℕ, suc, _+_, _%_, _≤_}
+use Prim.Native.Nat.{suc, _+_, _%_, _≤_}
 use mathlib.Core.Path.{_≡_}
-use mathlib.Core.Bool.{Bool, true, _&&_, and-eq-true-iff}
+use mathlib.Core.Bool.{true, _&&_, and-eq-true-iff}
 use lib.ListN.{length}
 use lib.Dec.{leb, eqb}
 use borrow.Author.Tests.{leb-true, le-leb, eqb-true, eq-eqb}
 use Rattle.laws.specs.Tests.{within, every, within-facts, within-test}
 use Rattle.meaning.specs.declared.Connection.{Connection}
-use Rattle.meaning.specs.Numbers.{Settings, classCount, largestFactor, largestBound, risingAbove, intervalAllowed, cycleAllowed, classesAllowed, largestBoundAllowed, settingsAllowed, classAllowed, longestAllowed, burstAllowed, periodAllowed, connectionAllowed, mostConnections, mostWaiting, lastSlot}
+use Rattle.meaning.specs.Numbers.{Settings, classCount, largestFactor, largestBound, risingAbove, intervalAllowed, cycleAllowed}
+use Rattle.meaning.specs.Numbers.{classesAllowed, largestBoundAllowed, settingsAllowed, classAllowed, longestAllowed, burstAllowed}
+use Rattle.meaning.specs.Numbers.{periodAllowed, connectionAllowed, mostConnections, mostWaiting, lastSlot}
 use Rattle.meaning.specs.declared.Packet.{Packet}
-use Rattle.meaning.specs.Box.{Box, connections, connection, waiting, packets, stands, numbersKept, inTheirQueues, queuesKept, serialsRise, packetKept, linkKept, countKept, allowancesKept, sound}
+use Rattle.meaning.specs.Box.{Box, connections, connection, waiting, packets, stands, numbersKept, inTheirQueues, queuesKept}
+use Rattle.meaning.specs.Box.{serialsRise, packetKept, linkKept, countKept, allowancesKept, sound}
 
 -- The rows of the table for a box.
 pub record SettingsFacts (box : Settings) : Type 0 where
@@ -23,6 +26,7 @@ pub record SettingsFacts (box : Settings) : Type 0 where
   pub factor-most : largestFactor box ≤ 63
   pub bound-most : largestBound box ≤ 1024
 
+-- Settings that are allowed keep the facts of the table of numbers.
 pub settings-facts : (box : Settings) → settingsAllowed box ≡ true → SettingsFacts box
 unfolding settingsAllowed intervalAllowed cycleAllowed classesAllowed largestBoundAllowed
 settings-facts box e =
@@ -58,6 +62,7 @@ pub record ConnectionFacts (box : Settings) (c : Connection) : Type 0 where
   pub period-most : c .period ≤ box .cycle
   pub period-divides : box .cycle % c .period ≡ 0
 
+-- A connection that is allowed keeps the facts of the table of numbers.
 pub connection-facts : (box : Settings) (c : Connection) → connectionAllowed box c ≡ true → ConnectionFacts box c
 unfolding connectionAllowed classAllowed longestAllowed burstAllowed periodAllowed
 connection-facts box c e =
@@ -91,6 +96,7 @@ pub record PacketFacts (box : Box) (p : Packet) : Type 0 where
   pub units-most : p .units ≤ connection box (p .connection) .longest
   pub arrival-most : p .arrival ≤ box .counter
 
+-- A packet that passes the test of a packet in the box keeps its clauses.
 pub packet-facts : (box : Box) (p : Packet) → packetKept box p ≡ true → PacketFacts box p
 unfolding packetKept stands
 packet-facts box p e =
@@ -113,6 +119,7 @@ packet-facts box p e =
       arrival-most = leb-true _ _ (a .1);
     }
 
+-- A packet that keeps the clauses of a packet in the box passes its test.
 pub packet-test : (box : Box) (p : Packet) → PacketFacts box p → packetKept box p ≡ true
 unfolding packetKept stands
 packet-test box p f =
@@ -121,7 +128,8 @@ packet-test box p f =
     let u = within 1 (p .units) (connection box (p .connection) .longest) in
     and-eq-true-iff (s && n && u) (leb (p .arrival) (box .counter)) .1 (
       and-eq-true-iff (s && n) u .1 (
-        and-eq-true-iff s n .1 (within-test 1 _ _ (f .serial-least) (f .serial-most), within-test 1 _ _ (f .connection-least) (f .connection-most)),
+        and-eq-true-iff s n .1
+            (within-test 1 _ _ (f .serial-least) (f .serial-most), within-test 1 _ _ (f .connection-least) (f .connection-most)),
         within-test 1 _ _ (f .units-least) (f .units-most),
       ),
       le-leb _ _ (f .arrival-most),
@@ -142,6 +150,7 @@ pub record SoundFacts (box : Box) : Type 0 where
   pub count-most : box .accepted ≤ box .counter + length (packets box)
   pub allowances-kept : allowancesKept box ≡ true
 
+-- A sound box keeps every clause of soundness.
 pub sound-facts : (box : Box) → sound box ≡ true → SoundFacts box
 unfolding sound numbersKept queuesKept countKept
 sound-facts box e =
@@ -164,7 +173,8 @@ sound-facts box e =
     let i = and-eq-true-iff (s && k && m) w .0 (h .0) in
     let j = and-eq-true-iff (s && k) m .0 (i .0) in
     let o = and-eq-true-iff s k .0 (j .0) in
-    let t = and-eq-true-iff (eqb (length (box .queues)) (suc (largestFactor (box .settings)))) (inTheirQueues box 0 (box .queues)) .0 (g .1) in
+    let t = and-eq-true-iff (eqb (length (box .queues)) (suc (largestFactor (box .settings)))) (inTheirQueues box 0 (box .queues)) .0
+    (g .1) in
     record {
       settings-allowed = o .0;
       connections-most = leb-true _ _ (o .1);
@@ -180,6 +190,7 @@ sound-facts box e =
       allowances-kept = a .1;
     }
 
+-- A box that keeps every clause of soundness is sound.
 pub sound-test : (box : Box) → SoundFacts box → sound box ≡ true
 unfolding sound numbersKept queuesKept countKept
 sound-test box f =

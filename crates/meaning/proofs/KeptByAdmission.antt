@@ -1,22 +1,23 @@
 -- A new box is sound, and an admission keeps a sound box sound.
 use Prim.Native.Nat.{ℕ, zero, suc, _+_, _-_, _/_, _≤_, _<_}
-use mathlib.Core.Path.{_≡_, refl, sym, ap, _∙_, subst}
+use mathlib.Core.Path.{_≡_, refl, sym, ap, _∙_}
 use mathlib.Core.Bool.{Bool, true, false, cond, not, _&&_, and-eq-true-iff}
-use mathlib.Core.List.{List, [], _∷_, _++_, map, flatten, map-append, List·Memᴰ, List·Memᴰ·eq-of-singleton, Memᴰ·append-left}
+use mathlib.Core.List.{List, [], _∷_, _++_, map, flatten, map-append, List·Memᴰ, Memᴰ·append-left}
 use native.Mathlib.Omega.{arith}
-use lib.ListN.{length, getD, replicate, length-replicate, length-append, length-map, List·getD-append}
+use lib.ListN.{length, replicate, length-replicate, length-append, length-map, List·getD-append}
 use lib.Dec.{leb, eqb}
 use borrow.Author.Tests.{leb-false}
 use Rattle.laws.specs.Tests.{every, every-at, every-all, every-append}
 use Rattle.laws.specs.Search.{Search, failsAt, holds}
 use Rattle.meaning.specs.declared.Connection.{Connection}
-use Rattle.meaning.specs.Numbers.{Settings, settingsAllowed, connectionAllowed, largestFactor, risingAbove, mostConnections, factor}
+use Rattle.meaning.specs.Numbers.{Settings, settingsAllowed, connectionAllowed, largestFactor, risingAbove, mostConnections}
 use Rattle.meaning.specs.Envelope.{full, allowanceKept}
 use Rattle.meaning.specs.Admission.{rateHolds, finiteSearch}
-use Rattle.meaning.specs.Queues.{emptyQueues, rank}
+use Rattle.meaning.specs.Queues.{emptyQueues}
 use Rattle.meaning.specs.declared.Packet.{Packet}
 use Rattle.meaning.specs.declared.Standing.{Standing}
-use Rattle.meaning.specs.Box.{Box, connections, connection, noConnection, waiting, onLink, packets, rankIn, inTheirQueues, serialsRise, packetKept, linkKept, allowancesKept, sound}
+use Rattle.meaning.specs.Box.{Box, connections, connection, noConnection, waiting, onLink, packets, rankIn, inTheirQueues}
+use Rattle.meaning.specs.Box.{serialsRise, packetKept, linkKept, allowancesKept, sound}
 use Rattle.meaning.specs.declared.Refusal.{Refusal}
 use Rattle.meaning.specs.declared.Admitted.{Admitted}
 use Rattle.meaning.specs.Calls.{newBox, withNewcomer, searchAnswer, admissionAnswer, withStanding, afterAdmission}
@@ -28,13 +29,15 @@ use Rattle.meaning.proofs.QueueLaws.{tagged, tagged-empty, tagged-weake
 abbrev pub inPlace : Box → ℕ → Packet → Bool
 inPlace box tag p = eqb (rankIn box p) (box .counter / box .settings .interval + tag)
 
+-- Packets are in their queues exactly if each lies in the queue of its tag.
 pub in-their-queues-tagged : (box : Box) (k : ℕ) (qs : List (List Packet)) → inTheirQueues box k qs ≡ tagged (inPlace box) k qs
 unfolding inTheirQueues tagged
 in-their-queues-tagged box k [] = refl
 in-their-queues-tagged box k (q ∷ qs) = ap (λ b. every (inPlace box k) q && b) (in-their-queues-tagged box (suc k) qs)
 
 -- Whoever has the same settings and the same connection ranks a packet the same.
-pub rank-same : (box other : Box) (p : Packet) → other .settings ≡ box .settings → connection other (p .connection) ≡ connection box (p .connection)
+pub rank-same : (box other : Box) (p : Packet) → other .settings ≡ box .settings
+    → connection other (p .connection) ≡ connection box (p .connection)
     → rankIn other p ≡ rankIn box p
 unfolding rankIn
 rank-same box other p e f = cc
@@ -82,15 +85,18 @@ taking box c = withStanding box (box .standing ++ (record { asked = c; allowance
 module _ (box : Box) (c : Connection) (facts : SoundFacts box) (allowed : connectionAllowed (box .settings) c ≡ true)
     (room : length (box .standing) < mostConnections)
   where
+    -- One connection more stands.
     one-more : length (taking box c .standing) ≡ suc (length (box .standing))
     unfolding withStanding
     one-more = simp length-append (omega arith)
 
+    -- Every packet of the box keeps its clauses with the newcomer standing.
     packet-stays : (p : Packet) → List·Memᴰ p (packets box) → PacketFacts (taking box c) p
     unfolding withStanding
     packet-stays p m =
         let f = packet-facts box p (every-at (packetKept box) (packets box) (facts .packets-kept) m) in
-        let e = connection-stays box (record { asked = c; allowance = full c }) (p .connection) (f .connection-least) (f .connection-most) in
+        let e = connection-stays box (record { asked = c; allowance = full c }) (p .connection) (f .connection-least)
+        (f .connection-most) in
         let l = f .connection-most in
         let o = one-more in
         record {
@@ -103,15 +109,20 @@ module _ (box : Box) (c : Connection) (facts : SoundFacts box) (allowed : connec
           arrival-most = f .arrival-most;
         }
 
-    place-stays : (t : ℕ) (p : Packet) → List·Memᴰ p (flatten (box .queues)) → inPlace box (0 + t) p ≡ true → inPlace (taking box c) t p ≡ true
+    -- Every waiting packet stays in the queue of its tag with the newcomer standing.
+    place-stays : (t : ℕ) (p : Packet) → List·Memᴰ p (flatten (box .queues)) → inPlace box (0 + t) p ≡ true
+        → inPlace (taking box c) t p ≡ true
     unfolding withStanding waiting packets
     place-stays t p m h =
-        let f = packet-facts box p (every-at (packetKept box) (packets box) (facts .packets-kept) (Memᴰ·append-left (onLink (box .link)) m)) in
-        let e = connection-stays box (record { asked = c; allowance = full c }) (p .connection) (f .connection-least) (f .connection-most) in
+        let f = packet-facts box p
+        (every-at (packetKept box) (packets box) (facts .packets-kept) (Memᴰ·append-left (onLink (box .link)) m)) in
+        let e = connection-stays box (record { asked = c; allowance = full c }) (p .connection) (f .connection-least)
+        (f .connection-most) in
         let r : rankIn (taking box c) p ≡ rankIn box p = rank-same box (taking box c) p refl e in
         let z : 0 + t ≡ t = omega arith in
         rw r (rw z at h)
 
+    -- The box with the newcomer standing is sound.
     taken-sound : sound (taking box c) ≡ true
     unfolding withStanding connections waiting packets serialsRise allowancesKept every
     taken-sound =
@@ -135,7 +146,8 @@ module _ (box : Box) (c : Connection) (facts : SoundFacts box) (allowed : connec
           link-kept = facts .link-kept;
           count-most = facts .count-most;
           allowances-kept =
-              every-append (λ s. allowanceKept (s .asked) (box .counter) (s .allowance)) (box .standing) (record { asked = c; allowance = full c } ∷ [])
+              every-append (λ s. allowanceKept (s .asked) (box .counter) (s .allowance)) (box .standing)
+              (record { asked = c; allowance = full c } ∷ [])
               (facts .allowances-kept)
               (and-eq-true-iff (allowanceKept c (box .counter) (full c)) true .1 (full-kept c (box .counter), refl));
         })
@@ -145,10 +157,12 @@ pub admission-keeps-sound : (box : Box) (c : Connection) → sound box ≡ true 
 unfolding admissionAnswer afterAdmission searchAnswer
 admission-keeps-sound box c e =
     rw e
-    (go (connectionAllowed (box .settings) c) refl (leb mostConnections (length (box .standing))) refl (rateHolds (box .settings) (withNewcomer box c))
+    (go (connectionAllowed (box .settings) c) refl (leb mostConnections (length (box .standing))) refl
+    (rateHolds (box .settings) (withNewcomer box c))
     (finiteSearch (box .settings) (withNewcomer box c)))
   where
-    go : (allowed : Bool) → connectionAllowed (box .settings) c ≡ allowed → (no-room : Bool) → leb mostConnections (length (box .standing)) ≡ no-room
+    go : (allowed : Bool) → connectionAllowed (box .settings) c ≡ allowed → (no-room : Bool)
+        → leb mostConnections (length (box .standing)) ≡ no-room
         → (rate-holds : Bool) (found : Search)
         → sound
         (afterAdmission box c

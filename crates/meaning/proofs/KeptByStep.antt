@@ -1,29 +1,32 @@
 -- A step keeps a sound box sound.
-use Prim.Native.Nat.{ℕ, zero, suc, _+_, _-_, _/_, _%_, _≤_, _<_}
+use Prim.Native.Nat.{ℕ, suc, _+_, _-_, _/_, _≤_, _<_}
 use mathlib.Core.Path.{_≡_, refl, sym, ap, _∙_, subst}
-use mathlib.Core.Bool.{Bool, true, false, cond, not, _&&_, and-eq-true-iff, true≢false}
-use mathlib.Core.List.{List, [], _∷_, _++_, map, flatten, List·Memᴰ, List·Memᴰ·head, List·Memᴰ·tail, List·Memᴰ·append-cases, List·Memᴰ·not-nil, List·Memᴰ·eq-of-singleton, Memᴰ·append-left, Memᴰ·append-right}
-use mathlib.Core.Logic.{_⊎_, inl, inr, ⊎-elim}
+use mathlib.Core.Bool.{Bool, true, false, cond, _&&_, and-eq-true-iff, true≢false}
+use mathlib.Core.List.{List, [], _∷_, map, flatten, List·Memᴰ, List·Memᴰ·append-cases}
+use mathlib.Core.List.{List·Memᴰ·not-nil, List·Memᴰ·eq-of-singleton, Memᴰ·append-left, Memᴰ·append-right}
+use mathlib.Core.Logic.{⊎-elim}
 use mathlib.Core.Option.{Option, none, some}
 use native.Mathlib.Omega.{arith}
 use lib.ListN.{length, length-append}
-use lib.Dec.{leb, ltb, eqb}
-use borrow.Author.Tests.{leb-true, leb-false, eqb-true, eqb-false}
-use Rattle.laws.specs.Tests.{within, within-facts, within-test, every, every-at, every-all, every-append, bool-cases}
+use lib.Dec.{leb, ltb}
+use borrow.Author.Tests.{leb-false, eqb-true, eqb-false}
+use Rattle.laws.specs.Tests.{within-facts, within-test, every, every-at, every-all, every-append}
 use Rattle.laws.specs.Turns.{turn-due, turn-not-due}
-use Rattle.meaning.specs.declared.Connection.{Connection}
-use Rattle.meaning.specs.Numbers.{Settings, risingAbove, lastSlot}
+use Rattle.meaning.specs.Numbers.{risingAbove, lastSlot}
 use Rattle.meaning.specs.Envelope.{allowanceKept}
-use Rattle.meaning.specs.Queues.{turnAt, turned, lowestHead, withoutLowestHead, tagZeroWaits}
+use Rattle.meaning.specs.Queues.{turned, lowestHead, withoutLowestHead, tagZeroWaits}
 use Rattle.meaning.specs.declared.Packet.{Packet}
 use Rattle.meaning.specs.declared.Standing.{Standing}
-use Rattle.meaning.specs.Box.{Box, Link, free, carries, connections, connection, waiting, onLink, packets, rankIn, inTheirQueues, serialsRise, packetKept, linkKept, allowancesKept, sound}
+use Rattle.meaning.specs.Box.{Box, Link, free, carries, connections, connection, waiting, onLink, packets, rankIn}
+use Rattle.meaning.specs.Box.{serialsRise, packetKept, linkKept, allowancesKept, sound}
 use Rattle.meaning.specs.declared.Refusal.{Refusal}
 use Rattle.meaning.specs.declared.Stepped.{Stepped}
-use Rattle.meaning.specs.Step.{loaded, linkTaken, queuesTaken, sentAnswer, linkSent, turnDue, stepAnswer, queuesStepped, moved, afterStep}
+use Rattle.meaning.specs.Step.{loaded, linkTaken, queuesTaken, sentAnswer, linkSent, turnDue, stepAnswer, queuesStepped, moved}
+use Rattle.meaning.specs.Step.{afterStep}
 use Rattle.meaning.proofs.Facts.{SoundFacts, PacketFacts, sound-facts, sound-test, settings-facts, packet-facts, packet-test}
 use Rattle.meaning.proofs.Allowances.{kept-later}
-use Rattle.meaning.proofs.QueueLaws.{lowest-member, without-member, without-length, without-count, nothing-taken, turned-member, turned-length, turned-count, tagged, tagged-without, tagged-weaken, tagged-last}
+use Rattle.meaning.proofs.QueueLaws.{lowest-member, without-member, without-length, without-count, nothing-taken, turned-member}
+use Rattle.meaning.proofs.QueueLaws.{turned-length, turned-count, tagged, tagged-without, tagged-weaken, tagged-last}
 use Rattle.meaning.proofs.KeptByAdmission.{inPlace, in-their-queues-tagged, rank-same}
 use Rattle.meaning.proofs.TagsAndRanks.{turn-test}
 
@@ -40,6 +43,7 @@ rising-weaker low lower (n ∷ ns) h e =
 abbrev pub rises : List Packet → Bool
 rises q = risingAbove 0 (map (λ p. p .serial) q)
 
+-- The serials still rise once the lowest head is taken.
 rises-without : (qs : List (List Packet)) → every rises qs ≡ true → every rises (withoutLowestHead qs) ≡ true
 unfolding every withoutLowestHead risingAbove
 rises-without [] e = e
@@ -61,10 +65,11 @@ pub record Taken (box : Box) (link : Link) (queues : List (List Packet)) : Type 
   pub left-within : (p : Packet) (left : ℕ) → link ≡ carries p left → (1 ≤ left) × (left ≤ p .units)
 
 module _ (box : Box) (facts : SoundFacts box) where
+  -- Every waiting packet of a sound box lies in the queue of its tag.
   placed-now : tagged (inPlace box) 0 (box .queues) ≡ true
   placed-now = sym (in-their-queues-tagged box 0 (box .queues)) ∙ facts .in-their-queues
 
-  -- the link was not free
+  -- Where the link was not free, it keeps its packet, and the queues stay.
   busy : (p : Packet) (left : ℕ) → box .link ≡ carries p left → Taken box (carries p left) (box .queues)
   unfolding waiting packets onLink serialsRise linkKept
   busy p left e =
@@ -81,7 +86,7 @@ module _ (box : Box) (facts : SoundFacts box) where
         left-within = λ x l f. let i : p ≡ x = cc in let j : left ≡ l = cc in (omega arith, subst (λ y. l ≤ y .units) i (omega arith));
       }
 
-  -- the link was free, and nothing waits
+  -- Where the link was free and nothing waits, it stays free.
   idle : box .link ≡ free → lowestHead (box .queues) ≡ none → Taken box free (withoutLowestHead (box .queues))
   unfolding waiting packets onLink serialsRise
   idle e h =
@@ -99,8 +104,9 @@ module _ (box : Box) (facts : SoundFacts box) where
         left-within = λ x l f. absurd (let y : _≡_ {A = ℕ} 0 1 = cc in omega arith);
       }
 
-  -- the link was free, and takes a packet
-  takes : (p : Packet) → box .link ≡ free → lowestHead (box .queues) ≡ some p → Taken box (carries p (p .units)) (withoutLowestHead (box .queues))
+  -- Where the link was free and a packet waits, it takes the lowest head.
+  takes : (p : Packet) → box .link ≡ free → lowestHead (box .queues) ≡ some p
+      → Taken box (carries p (p .units)) (withoutLowestHead (box .queues))
   unfolding waiting packets onLink serialsRise
   takes p e h =
       let n : length (onLink (box .link)) ≡ 0 = ap (λ l. length (onLink l)) e in
@@ -115,14 +121,19 @@ module _ (box : Box) (facts : SoundFacts box) where
         fewer = omega arith;
         same-number = simp length-append (omega arith);
         carried = λ x k. mathlib.Core.List.Memᴰ·cast (List·Memᴰ·eq-of-singleton k) m;
-        left-within = λ x l g. let i : p ≡ x = cc in let j : p .units ≡ l = cc in (let u = f .units-least in omega arith, subst (λ y. l ≤ y .units) i (omega arith));
+        left-within =
+            λ x l g. let i : p ≡ x = cc in
+            let j : p .units ≡ l = cc in
+            (let u = f .units-least in omega arith, subst (λ y. l ≤ y .units) i (omega arith));
       }
 
+  -- In every case the link and the queues keep what must hold once a free link has taken a packet.
   pub taken : Taken box (linkTaken (box .link) (box .queues)) (queuesTaken (box .link) (box .queues))
   unfolding linkTaken queuesTaken loaded
   taken = by-link (box .link) refl
     where
-      by-head : (o : Option Packet) → lowestHead (box .queues) ≡ o → box .link ≡ free → Taken box (loaded o) (withoutLowestHead (box .queues))
+      by-head : (o : Option Packet) → lowestHead (box .queues) ≡ o → box .link ≡ free
+          → Taken box (loaded o) (withoutLowestHead (box .queues))
       by-head none h e = idle e h
       by-head (some p) h e = takes p e h
 
@@ -136,6 +147,7 @@ record Sent (before link : Link) : Type 0 where
   still : (p : Packet) → List·Memᴰ p (onLink link) → List·Memᴰ p (onLink before)
   at-most-one : length (onLink before) ≤ suc (length (onLink link))
 
+-- The link keeps its range once a unit is sent, and at most its one packet is gone.
 sent : (link : Link) → ((p : Packet) (left : ℕ) → link ≡ carries p left → (1 ≤ left) × (left ≤ p .units)) → Sent link (linkSent link)
 unfolding linkSent linkKept onLink
 sent free h = record { kept = refl; still = λ p m. m; at-most-one = omega arith }
@@ -160,6 +172,7 @@ moved-rank : (box : Box) (p : Packet) → rankIn (moved box) p ≡ rankIn box p
 unfolding moved connection connections
 moved-rank box p = rank-same box (moved box) p refl refl
 
+-- A packet in the queue tagged d + t lies in the queue tagged t after a step that raises floor(now/D) by d.
 moved-place : (box : Box) (d t : ℕ) (p : Packet) → suc (box .counter) / box .settings .interval ≡ d + box .counter / box .settings .interval
     → inPlace box (d + t) p ≡ true → inPlace (moved box) t p ≡ true
 unfolding moved
@@ -170,14 +183,17 @@ moved-place box d t p e h =
 
 -- The turn puts each packet one tag lower.
 placed-turned : (box : Box) (qs : List (List Packet)) → tagZeroWaits qs ≡ false → tagged (inPlace box) 0 qs ≡ true
-    → suc (box .counter) / box .settings .interval ≡ 1 + box .counter / box .settings .interval → tagged (inPlace (moved box)) 0 (turned qs) ≡ true
+    → suc (box .counter) / box .settings .interval ≡ 1 + box .counter / box .settings .interval
+    → tagged (inPlace (moved box)) 0 (turned qs) ≡ true
 unfolding tagZeroWaits tagged turned
 placed-turned box [] z p q = refl
 placed-turned box ([] ∷ qs) z p q =
     let s : tagged (inPlace box) (1 + 0) qs ≡ true = and-eq-true-iff (every (inPlace box 0) []) (tagged (inPlace box) 1 qs) .0 p .1 in
-    tagged-last (inPlace (moved box)) 0 qs (tagged-weaken (inPlace box) (inPlace (moved box)) 1 0 qs (λ t x m h. moved-place box 1 t x q h) s)
+    tagged-last (inPlace (moved box)) 0 qs
+    (tagged-weaken (inPlace box) (inPlace (moved box)) 1 0 qs (λ t x m h. moved-place box 1 t x q h) s)
 placed-turned box ((x ∷ q) ∷ qs) z p e = absurd (true≢false z)
 
+-- The serials still rise once the queues are turned.
 rises-turned : (qs : List (List Packet)) → every rises qs ≡ true → every rises (turned qs) ≡ true
 unfolding turned every
 rises-turned [] r = r
@@ -186,10 +202,12 @@ rises-turned (q ∷ qs) r =
     every-append rises qs (q ∷ []) (a .1) (and-eq-true-iff (rises q) true .1 (a .0, refl))
 
 module _ (box : Box) (positive : 1 ≤ box .settings .interval) where
+  -- Where no turn is due, the queues keep their clauses at the next slot.
   stays : (qs : List (List Packet)) → turnDue box ≡ false → tagged (inPlace box) 0 qs ≡ true → every rises qs ≡ true → Queued box qs qs
   unfolding turnDue
   stays qs e p r =
-      let q = turn-not-due (box .settings .interval) (box .counter) positive (eqb-false _ _ (sym (turn-test (box .settings .interval) (box .counter)) ∙ e)) in
+      let q = turn-not-due (box .settings .interval) (box .counter) positive
+      (eqb-false _ _ (sym (turn-test (box .settings .interval) (box .counter)) ∙ e)) in
       record {
         count = refl;
         placed = tagged-weaken (inPlace box) (inPlace (moved box)) 0 0 qs (λ t x m h. moved-place box 0 t x (omega arith) h) p;
@@ -198,11 +216,14 @@ module _ (box : Box) (positive : 1 ≤ box .settings .interval) where
         same-length = refl;
       }
 
-  turns : (qs : List (List Packet)) → turnDue box ≡ true → tagZeroWaits qs ≡ false → tagged (inPlace box) 0 qs ≡ true → every rises qs ≡ true
+  -- Where a turn is due and tag 0 has no packet, the turned queues keep their clauses at the next slot.
+  turns : (qs : List (List Packet)) → turnDue box ≡ true → tagZeroWaits qs ≡ false → tagged (inPlace box) 0 qs ≡ true
+      → every rises qs ≡ true
       → Queued box qs (turned qs)
   unfolding turnDue
   turns qs e z p r =
-      let q = turn-due (box .settings .interval) (box .counter) positive (eqb-true _ _ (sym (turn-test (box .settings .interval) (box .counter)) ∙ e)) in
+      let q = turn-due (box .settings .interval) (box .counter) positive
+      (eqb-true _ _ (sym (turn-test (box .settings .interval) (box .counter)) ∙ e)) in
       record {
         count = turned-count qs;
         placed = placed-turned box qs z p (omega arith);
@@ -211,12 +232,13 @@ module _ (box : Box) (positive : 1 ≤ box .settings .interval) where
         same-length = turned-length qs;
       }
 
-  -- the queues after a step that is not blocked
+  -- After a step that is not blocked the queues keep their clauses.
   queued : (qs : List (List Packet)) → (turnDue box && tagZeroWaits qs) ≡ false → tagged (inPlace box) 0 qs ≡ true → every rises qs ≡ true
       → Queued box qs (cond (turnDue box) (turned qs) qs)
   queued qs e p r = go (turnDue box) refl (tagZeroWaits qs) refl e
     where
-      go : (due : Bool) → turnDue box ≡ due → (held : Bool) → tagZeroWaits qs ≡ held → (due && held) ≡ false → Queued box qs (cond due (turned qs) qs)
+      go : (due : Bool) → turnDue box ≡ due → (held : Bool) → tagZeroWaits qs ≡ held → (due && held) ≡ false
+          → Queued box qs (cond due (turned qs) qs)
       go false d h t f = stays qs d p r
       go true d false t f = turns qs d t p r
       go true d true t f = absurd (true≢false f)
@@ -224,22 +246,30 @@ module _ (box : Box) (positive : 1 ≤ box .settings .interval) where
 module _ (box : Box) (facts : SoundFacts box) (before-end : box .counter < lastSlot)
     (unblocked : (turnDue box && tagZeroWaits (queuesTaken (box .link) (box .queues))) ≡ false)
   where
+    -- The link once it, if free, has taken a packet.
     abbrev link₁ : Link
     link₁ = linkTaken (box .link) (box .queues)
 
+    -- The queues once a free link has taken a packet.
     abbrev queues₁ : List (List Packet)
     queues₁ = queuesTaken (box .link) (box .queues)
 
+    -- The link and the queues keep their clauses once a free link has taken a packet.
     first : Taken box link₁ queues₁
     first = taken box facts
 
+    -- The link keeps its clauses once the unit is sent.
     second : Sent link₁ (linkSent link₁)
     second = sent link₁ (first .left-within)
 
+    -- The queues keep their clauses once they are turned if due.
     third : Queued box queues₁ (moved box .queues)
     unfolding moved queuesStepped
-    third = queued box (settings-facts (box .settings) (facts .settings-allowed) .interval-least) queues₁ unblocked (first .placed) (first .rising)
+    third =
+        queued box (settings-facts (box .settings) (facts .settings-allowed) .interval-least) queues₁ unblocked (first .placed)
+        (first .rising)
 
+    -- Every packet of the box keeps its clauses at the next slot.
     packet-stays : (p : Packet) → List·Memᴰ p (packets box) → PacketFacts (moved box) p
     unfolding moved connection connections
     packet-stays p m =
@@ -255,12 +285,14 @@ module _ (box : Box) (facts : SoundFacts box) (before-end : box .counter < lastS
           arrival-most = omega arith;
         }
 
+    -- Every packet of the box after the step was there before it.
     was-there : (p : Packet) → List·Memᴰ p (packets (moved box)) → List·Memᴰ p (packets box)
     unfolding packets waiting moved
     was-there p m =
         ⊎-elim (λ w. first .waits p (third .waits p w)) (λ l. first .carried p (second .still p l))
         (List·Memᴰ·append-cases (flatten (moved box .queues)) m)
 
+    -- The box after the step is sound.
     moved-sound : sound (moved box) ≡ true
     unfolding moved connections packets waiting serialsRise allowancesKept
     moved-sound =
@@ -280,14 +312,16 @@ module _ (box : Box) (facts : SoundFacts box) (before-end : box .counter < lastS
           queue-count = third .count ∙ first .count ∙ facts .queue-count;
           in-their-queues = in-their-queues-tagged (moved box) 0 (moved box .queues) ∙ third .placed;
           serials-rise = third .rising;
-          packets-kept = every-all (packetKept (moved box)) (packets (moved box)) (λ p m. packet-test (moved box) p (packet-stays p (was-there p m)));
+          packets-kept =
+              every-all (packetKept (moved box)) (packets (moved box)) (λ p m. packet-test (moved box) p (packet-stays p (was-there p m)));
           link-kept = second .kept;
           count-most = simp length-append (omega arith);
           allowances-kept =
               every-all (λ (s : Standing). allowanceKept (s .asked) (suc (box .counter)) (s .allowance)) (box .standing)
               (λ s m.
               kept-later (s .asked) (box .counter) (suc (box .counter)) (s .allowance) (omega arith)
-              (every-at (λ (s : Standing). allowanceKept (s .asked) (box .counter) (s .allowance)) (box .standing) (facts .allowances-kept) m));
+              (every-at (λ (s : Standing). allowanceKept (s .asked) (box .counter) (s .allowance)) (box .standing)
+              (facts .allowances-kept) m));
         })
 
 -- An answer that is no refusal moves the box.
@@ -297,7 +331,8 @@ sent-moves box departure free = refl
 sent-moves box departure (carries p left) = go (leb left 1)
   where
     go : (last : Bool)
-        → afterStep box (cond last (Stepped.Departed (p .serial) (p .connection) (p .arrival) departure) (Stepped.Sending (p .serial) (left - 1))) ≡ moved box
+        → afterStep box (cond last (Stepped.Departed (p .serial) (p .connection) (p .arrival) departure)
+        (Stepped.Sending (p .serial) (left - 1))) ≡ moved box
     go true = refl
     go false = refl
 

@@ -1,35 +1,37 @@
 -- The queues of a list of ranked packets, and what joining, turning and taking do to them: what the tags-and-ranks theorem rests on.
-use Prim.Native.Nat.{ℕ, zero, suc, _+_, _/_, _%_, _≤_, _<_}
+use Prim.Native.Nat.{ℕ, zero, suc, _+_, _≤_, _<_}
 use mathlib.Core.Path.{_≡_, refl, sym, ap, _∙_}
-use mathlib.Core.Bool.{Bool, true, false, cond, and-eq-true-iff, false≢true}
-use mathlib.Core.List.{List, [], _∷_, _++_, List·Memᴰ, List·Memᴰ·head, List·Memᴰ·tail, List·Memᴰ·cases-cons, List·Memᴰ·not-nil, List·Memᴰ·append-cases, List·Memᴰ·eq-of-singleton, cons-eq-cons, tail-eq-of-cons-eq, head-eq-of-cons-eq, nil≢cons, cons≢nil}
-use mathlib.Core.Logic.{_⊎_, _≢_, inl, inr, ⊎-elim}
+use mathlib.Core.Bool.{Bool, true, false, cond}
+use mathlib.Core.List.{List, [], _∷_, _++_, List·Memᴰ, List·Memᴰ·head, List·Memᴰ·tail, List·Memᴰ·cases-cons, List·Memᴰ·not-nil}
+use mathlib.Core.List.{tail-eq-of-cons-eq, head-eq-of-cons-eq, nil≢cons}
+use mathlib.Core.List.{cons≢nil}
+use mathlib.Core.Logic.{_≢_, ⊎-elim}
 use mathlib.Core.Option.{Option, none, some}
 use native.Mathlib.Nat.{not-suc-le-zero}
 use native.Mathlib.Omega.{arith}
-use lib.ListN.{replicate}
-use lib.Dec.{leb, ltb, eqb}
-use borrow.Author.Tests.{eq-eqb, ne-eqb, eqb-true, eqb-false, le-leb, lt-leb, lt-ltb}
+use lib.Dec.{leb, eqb}
+use borrow.Author.Tests.{eq-eqb, ne-eqb, eqb-true, eqb-false, le-leb, lt-leb}
 use Rattle.laws.specs.Tests.{bool-cases}
-use Rattle.laws.specs.Turns.{turn-due, turn-not-due}
-use Rattle.meaning.specs.Queues.{Ranked, Move, accept, take, raise, Seen, accepted, taken, raised, blocked, At, turnAt, joinTail, turned, lowestHead, withoutLowestHead, tagZeroWaits, earlier, lowestRank, withoutRank, withoutChosen, rankWaits, raising, byTags, packetOf, byRanks, seenOf}
+use Rattle.meaning.specs.Queues.{Ranked, joinTail}
+use Rattle.meaning.specs.Queues.{turned, lowestHead, withoutLowestHead, tagZeroWaits, earlier, lowestRank, withoutRank}
+use Rattle.meaning.specs.Queues.{withoutChosen, rankWaits, packetOf}
 
 module _ {A : Type 0} where
-  -- the packets of this rank, in the order of acceptance
+  -- The packets of this rank, in the order of acceptance.
   unfoldable pub only : ℕ → List (Ranked A) → List A
   only r [] = []
   only r (p ∷ w) = cond (eqb (p .rankIs) r) (p .packet ∷ only r w) (only r w)
 
-  -- the n queues from this rank on
+  -- The n queues from this rank on.
   unfoldable pub layers : List (Ranked A) → ℕ → ℕ → List (List A)
   layers w r zero = []
   layers w r (suc n) = only r w ∷ layers w (suc r) n
 
-  -- every packet that waits has one of the n ranks from r on
+  -- Every packet that waits has one of the n ranks from r on.
   abbrev pub Between : List (Ranked A) → ℕ → ℕ → Type 0
   Between w r n = (p : Ranked A) → List·Memᴰ p w → (r ≤ p .rankIs) × (p .rankIs < r + n)
 
-  -- every packet that waits has at least the rank r
+  -- Every packet that waits has at least the rank r.
   abbrev pub From : List (Ranked A) → ℕ → Type 0
   From w r = (p : Ranked A) → List·Memᴰ p w → r ≤ p .rankIs
 
@@ -38,17 +40,21 @@ module _ {A : Type 0} where
   cond-cons true x l m t e = ap (λ k. x ∷ k) e
   cond-cons false x l m t e = e
 
-  only-append : (r : ℕ) (w : List (Ranked A)) (p : Ranked A) → only r (w ++ (p ∷ [])) ≡ only r w ++ cond (eqb (p .rankIs) r) (p .packet ∷ []) []
+  -- A packet accepted last joins the queue of its rank, and no other.
+  only-append : (r : ℕ) (w : List (Ranked A)) (p : Ranked A)
+      → only r (w ++ (p ∷ [])) ≡ only r w ++ cond (eqb (p .rankIs) r) (p .packet ∷ []) []
   unfolding only
   only-append r [] p = refl
   only-append r (q ∷ w) p = cond-cons (eqb (q .rankIs) r) (q .packet) _ _ _ (only-append r w p)
 
+  -- A packet of another rank leaves the queue of this rank.
   only-append-other : (r : ℕ) (w : List (Ranked A)) (p : Ranked A) → (p .rankIs ≡ r → ⊥) → only r (w ++ (p ∷ [])) ≡ only r w
   only-append-other r w p h = only-append r w p ∙ rw (ne-eqb (p .rankIs) r h) (append-empty (only r w))
     where
       append-empty : (l : List A) → l ++ [] ≡ l
       append-empty l = mathlib.Core.List.append-nil l
 
+  -- A packet of a rank below r leaves the queues from r on.
   layers-append-below : (w : List (Ranked A)) (p : Ranked A) (r n : ℕ) → p .rankIs < r → layers (w ++ (p ∷ [])) r n ≡ layers w r n
   unfolding layers
   layers-append-below w p r zero h = refl
@@ -57,6 +63,7 @@ module _ {A : Type 0} where
       let b = layers-append-below w p (suc r) n (omega arith) in
       cc
 
+  -- A packet of rank r + k joins the tail of the queue tagged k among those from r on.
   pub layers-append : (w : List (Ranked A)) (p : Ranked A) (k r n : ℕ) → p .rankIs ≡ r + k → k < n
       → layers (w ++ (p ∷ [])) r n ≡ joinTail k (p .packet) (layers w r n)
   unfolding layers joinTail
@@ -80,19 +87,23 @@ module _ {A : Type 0} where
       let b = layers-last w (suc r) n in
       ap (λ (l : List (List A)). only r w ∷ l) (b ∙ ap (λ k. layers w (suc r) n ++ (only k w ∷ [])) e)
 
+  -- A rank that no packet has is an empty queue.
   only-nothing : (r : ℕ) (w : List (Ranked A)) → ((p : Ranked A) → List·Memᴰ p w → p .rankIs ≡ r → ⊥) → only r w ≡ []
   unfolding only
   only-nothing r [] h = refl
   only-nothing r (p ∷ w) h =
       rw (ne-eqb (p .rankIs) r (h p (List·Memᴰ·head refl))) (only-nothing r w (λ q m. h q (List·Memᴰ·tail m)))
 
-  pub layers-turned : (w : List (Ranked A)) (r n : ℕ) → Between w r (suc n) → only r w ≡ [] → turned (layers w r (suc n)) ≡ layers w (suc r) (suc n)
+  -- Where the lowest queue is empty, the queues turned are those from the next rank on.
+  pub layers-turned : (w : List (Ranked A)) (r n : ℕ) → Between w r (suc n) → only r w ≡ []
+      → turned (layers w r (suc n)) ≡ layers w (suc r) (suc n)
   unfolding turned layers
   layers-turned w r n h e =
       let top : only (suc r + n) w ≡ [] = only-nothing (suc r + n) w (λ p m q. omega (arith, h p m)) in
       let b : layers w (suc r) (suc n) ≡ layers w (suc r) n ++ (only (suc r + n) w ∷ []) = layers-last w (suc r) n in
       cc
 
+  -- Whether tag 0 has a waiting packet depends on the first queue alone.
   head-decides : (q : List A) (a b : List (List A)) → tagZeroWaits (q ∷ a) ≡ tagZeroWaits (q ∷ b)
   unfolding tagZeroWaits
   head-decides [] a b = refl
@@ -109,12 +120,14 @@ module _ {A : Type 0} where
       go true e = refl
       go false e = head-decides (only r w) (layers (p ∷ w) (suc r) n) (layers w (suc r) n) ∙ e
 
+  -- Where no packet of a rank waits, its queue is empty.
   pub rank-waits-not : (r : ℕ) (w : List (Ranked A)) → rankWaits r w ≡ false → only r w ≡ []
   unfolding rankWaits only
   rank-waits-not r [] e = refl
   rank-waits-not r (p ∷ w) e = go (eqb (p .rankIs) r) e (rank-waits-not r w)
     where
-      go : (b : Bool) → cond b true (rankWaits r w) ≡ false → (rankWaits r w ≡ false → only r w ≡ []) → cond b (p .packet ∷ only r w) (only r w) ≡ []
+      go : (b : Bool) → cond b true (rankWaits r w) ≡ false → (rankWaits r w ≡ false → only r w ≡ [])
+          → cond b (p .packet ∷ only r w) (only r w) ≡ []
       go true f h = absurd (mathlib.Core.Bool.true≢false f)
       go false f h = h f
 
@@ -138,19 +151,21 @@ module _ {A : Type 0} where
       go none k f = let z : p ≡ q = cc in rw (← z) own
       go (some s) k f = of-two (leb (p .rankIs) (s .rankIs)) s (k s refl) f
 
-  -- where the rank r is the lowest that can wait and its queue begins with x, x is chosen
+  -- The packet that goes first has the rank r and is x.
   record Chosen (w : List (Ranked A)) (r : ℕ) (x : A) : Type 0 where
     which : Ranked A
     lowest : lowestRank w ≡ some which
     rank-is : which .rankIs ≡ r
     packet-is : which .packet ≡ x
 
+  -- Where rank r is the lowest that can wait and its queue begins with x, x goes first.
   chosen-first : (w : List (Ranked A)) (r : ℕ) (x : A) (q : List A) → From w r → only r w ≡ x ∷ q → Chosen w r x
   unfolding only lowestRank earlier
   chosen-first [] r x q h e = absurd (nil≢cons e)
   chosen-first (p ∷ w) r x q h e =
       ⊎-elim (λ (t : eqb (p .rankIs) r ≡ true). here (eqb-true (p .rankIs) r t) (rw t at e))
-      (λ (f : eqb (p .rankIs) r ≡ false). later (eqb-false (p .rankIs) r f) (chosen-first w r x q (λ y m. h y (List·Memᴰ·tail m)) (rw f at e)))
+      (λ (f : eqb (p .rankIs) r ≡ false). later (eqb-false (p .rankIs) r f)
+      (chosen-first w r x q (λ y m. h y (List·Memᴰ·tail m)) (rw f at e)))
       (bool-cases (eqb (p .rankIs) r))
     where
       own : r ≤ p .rankIs
@@ -178,10 +193,12 @@ module _ {A : Type 0} where
             packet-is = c .packet-is;
           }
 
+  -- If a list is empty with or without a packet before it, the list itself is empty.
   skip-first : (b : Bool) (x : A) (l : List A) → cond b (x ∷ l) l ≡ [] → l ≡ []
   skip-first true x l e = absurd (cons≢nil e)
   skip-first false x l e = e
 
+  -- The queue of a rank at which a packet waits is not empty.
   only-member : (r : ℕ) (w : List (Ranked A)) {p : Ranked A} → List·Memᴰ p w → p .rankIs ≡ r → only r w ≡ [] → ⊥
   unfolding only
   only-member r [] m k e = List·Memᴰ·not-nil m
@@ -190,13 +207,14 @@ module _ {A : Type 0} where
       (λ (n : List·Memᴰ p w). only-member r w n k (skip-first (eqb (s .rankIs) r) (s .packet) (only r w) e))
       (List·Memᴰ·cases-cons m)
 
+  -- Where the lowest queue is empty, every packet that waits has one of the ranks above.
   pub above-empty : (w : List (Ranked A)) (r n : ℕ) → Between w r (suc n) → only r w ≡ [] → Between w (suc r) n
   above-empty w r n h e p m =
       let b = h p m in
       let ne : p .rankIs ≢ r = λ k. only-member r w m k e in
       omega arith
 
-  -- with tags and with ranks the same packet is chosen
+  -- With tags and with ranks the same packet is chosen.
   pub same-choice : (n : ℕ) (w : List (Ranked A)) (r : ℕ) → Between w r n → lowestHead (layers w r n) ≡ packetOf (lowestRank w)
   unfolding layers lowestHead lowestRank packetOf
   same-choice zero [] r h = refl
@@ -219,6 +237,7 @@ module _ {A : Type 0} where
       (λ (f : eqb (p .rankIs) r ≡ false). rw f (rw f (only-without-same r w x q (rw f at e))))
       (bool-cases (eqb (p .rankIs) r))
 
+  -- Taking a packet of another rank leaves the queue of this rank.
   only-without-other : (r t : ℕ) (w : List (Ranked A)) → (r ≡ t → ⊥) → only r (withoutRank t w) ≡ only r w
   unfolding only withoutRank
   only-without-other r t [] h = refl
@@ -227,6 +246,7 @@ module _ {A : Type 0} where
       (λ (f : eqb (p .rankIs) t ≡ false). rw (f, only-without-other r t w h) refl)
       (bool-cases (eqb (p .rankIs) t))
 
+  -- Taking a packet of a rank below r leaves the queues from r on.
   layers-without : (w : List (Ranked A)) (t r n : ℕ) → t < r → layers (withoutRank t w) r n ≡ layers w r n
   unfolding layers
   layers-without w t r zero h = refl
@@ -235,7 +255,7 @@ module _ {A : Type 0} where
       let b = layers-without w t (suc r) n (omega arith) in
       cc
 
-  -- a rank that no one waits at is empty after the chosen packet is taken
+  -- A rank at which no packet waits stays empty once the chosen packet is taken.
   still-empty : (r : ℕ) (w : List (Ranked A)) → From w (suc r) → only r w ≡ [] → only r (withoutChosen (lowestRank w) w) ≡ []
   unfolding withoutChosen
   still-empty r w h e = go (lowestRank w) (lowest-from w (suc r) h)
@@ -246,11 +266,12 @@ module _ {A : Type 0} where
           let l : suc r ≤ q .rankIs = k q refl in
           only-without-other r (q .rankIs) w (λ (i : r ≡ q .rankIs). omega arith) ∙ e
 
+  -- Taking a chosen packet of rank r takes the first accepted one of that rank.
   chosen-gone : (w : List (Ranked A)) (r : ℕ) (p : Ranked A) → p .rankIs ≡ r → withoutChosen (some p) w ≡ withoutRank r w
   unfolding withoutChosen
   chosen-gone w r p k = ap (λ t. withoutRank t w) k
 
-  -- with tags and with ranks the same packets are left
+  -- With tags and with ranks the same packets are left.
   pub same-rest : (n : ℕ) (w : List (Ranked A)) (r : ℕ) → Between w r n
       → withoutLowestHead (layers w r n) ≡ layers (withoutChosen (lowestRank w) w) r n
   unfolding layers withoutLowestHead
@@ -272,6 +293,7 @@ module _ {A : Type 0} where
           let b = layers-without w r (suc r) n (omega arith) in
           rw o (cc)
 
+  -- What waits once a packet of a rank is taken waited before.
   without-member : (t : ℕ) (w : List (Ranked A)) {p : Ranked A} → List·Memᴰ p (withoutRank t w) → List·Memᴰ p w
   unfolding withoutRank
   without-member t [] m = m
@@ -281,6 +303,7 @@ module _ {A : Type 0} where
       go true ih k = List·Memᴰ·tail k
       go false ih k = ⊎-elim (λ e. List·Memᴰ·head e) (λ n. List·Memᴰ·tail (ih n)) (List·Memᴰ·cases-cons k)
 
+  -- What waits once the chosen packet is taken waited before.
   pub chosen-member : (o : Option (Ranked A)) (w : List (Ranked A)) {p : Ranked A} → List·Memᴰ p (withoutChosen o w) → List·Memᴰ p w
   unfolding withoutChosen
   chosen-member none w m = m

@@ -24,12 +24,14 @@ use Rattle.meaning.proofs.Facts.{sound-facts}
 use Rattle.meaning.proofs.KeptByOffer.{offer-keeps-sound}
 use Rattle.meaning.proofs.TextMost.{Printed, PrintedLine, AllPrinted}
 
+-- Joining a tail adds at most one packet.
 joined-most : (k : ℕ) (p : Packet) (qs : List (List Packet)) → length (flatten (joinTail k p qs)) ≤ suc (length (flatten qs))
 unfolding joinTail flatten
 joined-most k p [] = omega arith
 joined-most zero p (q ∷ qs) = simp length-append (omega arith)
 joined-most (suc k) p (q ∷ qs) = let i = joined-most k p qs in simp length-append (omega arith)
 
+-- An offer adds at most one packet to the box.
 offer-count : (box : Box) (n units : ℕ) (answer : Offered) → length (packets (afterOffer box n units answer)) ≤ suc (length (packets box))
 unfolding afterOffer packets waiting joined
 offer-count box n units (Offered.Accepted serial) =
@@ -38,13 +40,13 @@ offer-count box n units (Offered.Accepted serial) =
     simp length-append (omega arith)
 offer-count box n units (Offered.Refused why) = omega arith
 
--- an offer does not move the counter
+-- An offer does not move the counter.
 pub offer-counter : (box : Box) (n units : ℕ) (answer : Offered) → afterOffer box n units answer .counter ≡ box .counter
 unfolding afterOffer
 offer-counter box n units (Offered.Accepted serial) = refl
 offer-counter box n units (Offered.Refused why) = refl
 
--- the count of accepted packets of a sound box, and one more, is a printed number
+-- The count of accepted packets of a sound box, and two more, is below 5,000,000,000.
 pub accepted-printed : (box : Box) → sound box ≡ true → suc (suc (box .accepted)) < 5000000000
 unfolding packets waiting onLink
 accepted-printed box e =
@@ -60,21 +62,29 @@ accepted-printed box e =
     on-link free = omega arith
     on-link (carries p left) = omega arith
 
+-- The numbers of the line of an offer are printed numbers.
 offer-printed : (box : Box) (n units place : ℕ) → sound box ≡ true → Printed place
     → PrintedLine (offerLine place (offered (offerAnswer box n units) .number) (getD (offered (offerAnswer box n units) .fields) 0 0))
 unfolding offerAnswer offered refusal refusalNumber
 offer-printed box n units place e p =
     let a = accepted-printed box e in
     rw e
-    (go (stands box n) (within 1 units (connection box n .longest)) (conforms (connection box n) (allowance box n) (box .counter)) (leb 1024 (length (waiting box))) a)
+    (go (stands box n) (within 1 units (connection box n .longest)) (conforms (connection box n) (allowance box n) (box .counter))
+    (leb 1024 (length (waiting box))) a)
   where
     go : (a b c d : Bool) → suc (suc (box .accepted)) < 5000000000
         → PrintedLine
         (offerLine place
-        (offered (cond (not a) (Offered.Refused Refusal.NoConnection) (cond (not b) (Offered.Refused Refusal.WrongLength) (cond (not c) (Offered.Refused Refusal.NotFitting) (cond d (Offered.Refused Refusal.StoreFull) (Offered.Accepted (suc (box .accepted)))))))
+        (offered (cond (not a) (Offered.Refused Refusal.NoConnection)
+        (cond (not b) (Offered.Refused Refusal.WrongLength)
+        (cond (not c) (Offered.Refused Refusal.NotFitting)
+        (cond d (Offered.Refused Refusal.StoreFull) (Offered.Accepted (suc (box .accepted)))))))
         .number)
         (getD
-        (offered (cond (not a) (Offered.Refused Refusal.NoConnection) (cond (not b) (Offered.Refused Refusal.WrongLength) (cond (not c) (Offered.Refused Refusal.NotFitting) (cond d (Offered.Refused Refusal.StoreFull) (Offered.Accepted (suc (box .accepted)))))))
+        (offered (cond (not a) (Offered.Refused Refusal.NoConnection)
+        (cond (not b) (Offered.Refused Refusal.WrongLength)
+        (cond (not c) (Offered.Refused Refusal.NotFitting)
+        (cond d (Offered.Refused Refusal.StoreFull) (Offered.Accepted (suc (box .accepted)))))))
         .fields)
         0 0))
     go false b c d h = (p, omega arith, omega arith)
@@ -91,11 +101,19 @@ pub record Offering (box after : Box) (lines : List Line) (count : ℕ) : Type 0
   pub lines-are : length lines ≡ count
   pub printed : AllPrinted lines
 
-pub offers : (numbers : List ℕ) (l : List (Placed Arrival)) (box : Box) → sound box ≡ true → ((a : Placed Arrival) → List·Memᴰ a l → Printed (a .place))
+-- The offers of a slot print one line each, with small numbers, keep the box sound and leave the counter.
+pub offers : (numbers : List ℕ) (l : List (Placed Arrival)) (box : Box) → sound box ≡ true
+    → ((a : Placed Arrival) → List·Memᴰ a l → Printed (a .place))
     → Offering box (offerAll numbers l box .box) (offerAll numbers l box .lines) (length l)
 unfolding offerAll
 offers numbers [] box e h =
-    record { still-sound = e; counter-stays = refl; packets-most = omega arith; lines-are = refl; printed = λ k m. absurd (List·Memᴰ·not-nil m) }
+    record {
+      still-sound = e;
+      counter-stays = refl;
+      packets-most = omega arith;
+      lines-are = refl;
+      printed = λ k m. absurd (List·Memᴰ·not-nil m);
+    }
 offers numbers (a ∷ l) box e h =
     let n = numberOf numbers (a .entry .place) in
     let u = a .entry .units in

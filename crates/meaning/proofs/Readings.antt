@@ -1,5 +1,5 @@
 -- The tests of the definitions, read as the sentences of document 01.
-use Prim.Native.Nat.{ℕ, zero, suc, _-_, _≤_, _<_}
+use Prim.Native.Nat.{ℕ, zero, suc, _-_, _≤_}
 use mathlib.Core.Path.{_≡_, refl}
 use mathlib.Core.Bool.{true}
 use mathlib.Core.List.{List, _∷_}
@@ -21,7 +21,8 @@ use Rattle.meaning.specs.declared.Stepped.{Stepped}
 use Rattle.meaning.specs.declared.PlanRead.{PlanRead}
 use Rattle.meaning.specs.declared.PlanWritten.{PlanWritten}
 use Rattle.meaning.specs.declared.Printed.{Printed}
-use Rattle.meaning.specs.Answers.{Answer, refusalNumber, failingT, refusal, opened, admitted, offered, stepped, planRead, planWritten, printed}
+use Rattle.meaning.specs.Answers.{Answer, refusalNumber, failingT, refusal, opened, admitted, offered, stepped, planRead}
+use Rattle.meaning.specs.Answers.{planWritten, printed}
 
 -- "An offer at slot now fits exactly when, with it counted, no stretch that ends at now and starts at an earlier or the same slot has
 -- more than it may."

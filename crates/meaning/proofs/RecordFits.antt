@@ -1,11 +1,11 @@
 -- Document 01, "Envelope": along any sequence of offers from a fresh record the allowance answers exactly what the definition over
 -- stretches answers.
-use Prim.Native.Nat.{ℕ, zero, suc, _+_, _*_, _-_, _/_, _≤_, _<_, max}
-use mathlib.Core.Path.{_≡_, refl, sym, ap, _∙_, subst}
-use mathlib.Core.Bool.{Bool, true, false, cond, true≢false}
-use mathlib.Core.List.{List, [], _∷_, cons-eq-cons}
+use Prim.Native.Nat.{ℕ, suc, _+_, _*_, _-_, _/_, _≤_, _<_, max}
+use mathlib.Core.Path.{_≡_, refl, ap, _∙_}
+use mathlib.Core.Bool.{Bool, true, false, cond}
+use mathlib.Core.List.{List, [], _∷_}
 use mathlib.Core.Logic.{_⊎_, _↔_, inl, inr, ⊎-elim}
-use native.Mathlib.Nat.{mul-le-mul-right, le-max-left, le-max-right, max-eq-left, max-eq-right, suc-mul, zero-mul, eq-zero-or-pos}
+use native.Mathlib.Nat.{mul-le-mul-right, le-max-left, le-max-right, max-eq-left, max-eq-right, eq-zero-or-pos}
 use native.Mathlib.Decide.{decLe}
 use native.Mathlib.Omega.{arith}
 use lib.Dec.{leb}
@@ -32,18 +32,22 @@ numberOf T (a ∷ slots) = max (numberOf T slots) a + T
 since : ℕ → List ℕ → ℕ
 since x slots = sumOf (λ a. cond (leb x a) 1 0) slots
 
+-- A packet accepted at slot x or after it counts for one.
 since-cons-in : (x a : ℕ) (slots : List ℕ) → x ≤ a → since x (a ∷ slots) ≡ suc (since x slots)
 unfolding since sumOf
 since-cons-in x a slots h = rw (le-leb x a h) (omega arith)
 
+-- A packet accepted before slot x does not count.
 since-cons-out : (x a : ℕ) (slots : List ℕ) → a < x → since x (a ∷ slots) ≡ since x slots
 unfolding since sumOf
 since-cons-out x a slots h = rw (lt-leb x a h) (omega arith)
 
+-- Of no packets none lies at slot x or after it.
 since-nil : (x : ℕ) → since x [] ≡ 0
 unfolding since sumOf
 since-nil x = refl
 
+-- If no packet was accepted after some slot before x, none lies at x or after it.
 since-none : (x at : ℕ) (slots : List ℕ) → Descending at slots → at < x → since x slots ≡ 0
 since-none x at [] d h = since-nil x
 since-none x at (a ∷ slots) d h = since-cons-out x a slots (omega arith) ∙ since-none x a slots (d .1) (omega arith)
@@ -75,6 +79,7 @@ record Made (T at : ℕ) (slots : List ℕ) : Type 0 where
   some-from : 1 ≤ since from slots
   number-is : numberOf T slots ≡ from + since from slots * T
 
+-- The number is 0 or made by the packets from some slot on.
 number-made : (T at : ℕ) (slots : List ℕ) → 1 ≤ T → Descending at slots → (numberOf T slots ≡ 0) ⊎ Made T at slots
 unfolding numberOf
 number-made T at [] h d = inl refl
@@ -111,7 +116,8 @@ counted : (x at : ℕ) (slots : List ℕ) → Descending at slots → x ≤ at �
 unfolding countIn sumOf since
 counted x at slots d h = rw (within-test x at at h (omega arith)) (let e = rest at slots d (omega arith) in omega arith)
   where
-    rest : (top : ℕ) (l : List ℕ) → Descending top l → top ≤ at → sumOf (λ a. cond (within x a at) 1 0) l ≡ sumOf (λ a. cond (leb x a) 1 0) l
+    rest : (top : ℕ) (l : List ℕ) → Descending top l → top ≤ at
+        → sumOf (λ a. cond (within x a at) 1 0) l ≡ sumOf (λ a. cond (leb x a) 1 0) l
     rest top [] d k = refl
     rest top (a ∷ l) d k =
         let i = rest a l (d .1) (let o = d .0 in omega arith) in
@@ -136,7 +142,8 @@ fits-exactly c at slots h k d = (forth, back)
         reached : Made (c .period) at slots → numberOf (c .period) slots + c .period ≤ at + c .burst * c .period
         reached m =
             let l = m .not-after in
-            let t = leb-true _ _ (everyBelow-at (λ x. leb (countIn (at ∷ slots) x at) (c .burst + (at - x) / c .period)) (suc at) e (m .from) (omega arith)) in
+            let t = leb-true _ _
+            (everyBelow-at (λ x. leb (countIn (at ∷ slots) x at) (c .burst + (at - x) / c .period)) (suc at) e (m .from) (omega arith)) in
             let n = counted (m .from) at slots d l in
             let q = within-quotient (countIn (at ∷ slots) (m .from) at) (c .burst) (at - m .from) (c .period) t in
             let p : countIn (at ∷ slots) (m .from) at * c .period ≡ suc (since (m .from) slots) * c .period = ap (λ x. x * c .period) n in
@@ -191,12 +198,15 @@ abbrev pub Ascending : ℕ → List ℕ → Type 0
 Ascending from [] = Unit {0}
 Ascending from (at ∷ offers) = (from ≤ at) × Ascending at offers
 
+-- Slots that are not after one slot are not after a later one.
 pub descending-later : (at later : ℕ) (slots : List ℕ) → at ≤ later → Descending at slots → Descending later slots
 descending-later at later [] h d = tt
 descending-later at later (a ∷ slots) h d = (let o = d .0 in omega arith, d .1)
 
+-- From a record that stands for the accepted packets, every offer gets the answer of the stretches.
 same-from : (c : Connection) (from : ℕ) (a : Allowance) (slots offers : List ℕ) → 1 ≤ c .period → 1 ≤ c .burst
-    → Means c from a (numberOf (c .period) slots) → Descending from slots → Ascending from offers → byRecord c a offers ≡ byStretches c slots offers
+    → Means c from a (numberOf (c .period) slots) → Descending from slots → Ascending from offers
+    → byRecord c a offers ≡ byStretches c slots offers
 unfolding byRecord byStretches
 same-from c from a slots [] h k m d u = refl
 same-from c from a slots (at ∷ offers) h k m d u =
@@ -206,11 +216,13 @@ same-from c from a slots (at ∷ offers) h k m d u =
     rw (← e)
     (ap (λ (l : List Bool). conforms c a at ∷ l)
     (⊎-elim
-    (λ (t : conforms c a at ≡ true). rw t (same-from c at (charged c a at) (at ∷ slots) offers h k (record-charged c at a slots h k n t) (omega arith, w) (u .1)))
+    (λ (t : conforms c a at ≡ true). rw t
+    (same-from c at (charged c a at) (at ∷ slots) offers h k (record-charged c at a slots h k n t) (omega arith, w) (u .1)))
     (λ (f : conforms c a at ≡ false). rw f (same-from c at a slots offers h k n w (u .1)))
     (bool-cases (conforms c a at))))
 
 -- From a fresh record, over any offers at slots that never fall.
-pub record-fits : (c : Connection) (offers : List ℕ) → 1 ≤ c .period → 1 ≤ c .burst → Ascending 0 offers → byRecord c (full c) offers ≡ byStretches c [] offers
+pub record-fits : (c : Connection) (offers : List ℕ) → 1 ≤ c .period → 1 ≤ c .burst → Ascending 0 offers
+    → byRecord c (full c) offers ≡ byStretches c [] offers
 unfolding numberOf
 record-fits c offers h k u = same-from c 0 (full c) [] offers h k (full-means c 0) tt u

@@ -1,12 +1,11 @@
 -- The rest of a run from a box on, as lines, without a bound on its slots: what a program that runs slot after slot prints.
 use Prim.Native.Nat.{ℕ, zero, suc, _+_, _-_, _≤_, _<_}
-use mathlib.Core.Path.{_≡_, refl, sym, ap, _∙_, subst}
-use mathlib.Core.Bool.{Bool, true, false, cond}
+use mathlib.Core.Path.{_≡_, refl, sym, ap, _∙_}
+use mathlib.Core.Bool.{true, false}
 use mathlib.Core.List.{List, [], _∷_, _++_, append-assoc}
 use native.Mathlib.Omega.{arith}
 use lib.ListN.{length}
-use lib.Dec.{eqb}
-use Rattle.laws.specs.Lists.{Placed, keep, placedFrom}
+use Rattle.laws.specs.Lists.{Placed, placedFrom}
 use Rattle.meaning.specs.declared.Stepped.{Stepped}
 use Rattle.meaning.specs.Box.{Box}
 use Rattle.meaning.specs.Answers.{refusalNumber, refusal, stepped}
@@ -14,7 +13,8 @@ use Rattle.meaning.specs.Calls.{newBox}
 use Rattle.meaning.specs.Step.{stepAnswer, moved, afterStep}
 use Rattle.meaning.specs.declared.Arrival.{Arrival}
 use Rattle.meaning.specs.Plan.{Plan}
-use Rattle.meaning.specs.Run.{Line, Phase, going, ended, stopped, endLine, stopLine, admitAll, offerAll, departures, finished, phase, slots, slotsEnough, openRun}
+use Rattle.meaning.specs.Run.{Line, stopped, endLine, stopLine, admitAll, offerAll, departures, finished}
+use Rattle.meaning.specs.Run.{phase, slots, slotsEnough, openRun}
 use Rattle.meaning.specs.Rest.{potential, dueNow, restOf, afterAnswer}
 use Rattle.meaning.proofs.Readings.{refused-phase}
 use Rattle.meaning.proofs.SlotsEnough.{falls, enough, start-potential, new-weight, admissions-weight}
@@ -31,21 +31,31 @@ rest-from : (n d : ℕ) (l : List (Placed Arrival)) (numbers : List ℕ) (box : 
 unfolding restOf
 rest-from n d l numbers box h =
     let e : suc (potential l box) + (n - suc (potential l box)) ≡ n = omega arith in
-    sym (ap (λ k. slots k (phase l box 0) l numbers box d) e) ∙ enough (suc (potential l box)) (n - suc (potential l box)) l numbers box d (omega arith)
+    sym (ap (λ k. slots k (phase l box 0) l numbers box d) e) ∙
+    enough (suc (potential l box)) (n - suc (potential l box)) l numbers box d (omega arith)
 
-stop-line : (n answer : ℕ) (l : List (Placed Arrival)) (numbers : List ℕ) (box : Box) (d : ℕ) → 1 ≤ n → slots n (stopped answer) l numbers box d ≡ stopLine answer ∷ []
+-- A run that has stopped prints the STOP line and nothing more.
+stop-line : (n answer : ℕ) (l : List (Placed Arrival)) (numbers : List ℕ) (box : Box) (d : ℕ) → 1 ≤ n
+    → slots n (stopped answer) l numbers box d ≡ stopLine answer ∷ []
 unfolding slots
 stop-line zero answer l numbers box d h = absurd (let z = h in omega arith)
 stop-line (suc n) answer l numbers box d h = refl
 
 -- The lines after the offers of a slot, for whatever the step answers.
-answered : (n : ℕ) (l : List (Placed Arrival)) (numbers : List ℕ) (box : Box) (departed : ℕ) (answer : Stepped) → suc (potential l (moved box)) ≤ n
-    → slots n (phase l (afterStep box answer) (stepped answer .number)) l numbers (afterStep box answer) (departed + length (departures numbers answer))
+answered : (n : ℕ) (l : List (Placed Arrival)) (numbers : List ℕ) (box : Box) (departed : ℕ) (answer : Stepped)
+    → suc (potential l (moved box)) ≤ n
+    → slots n (phase l (afterStep box answer) (stepped answer .number)) l numbers (afterStep box answer)
+    (departed + length (departures numbers answer))
     ≡ afterAnswer l numbers box departed answer
 unfolding afterStep stepped refusal departures afterAnswer phase
-answered n l numbers box departed Stepped.Idle h = let z : departed + 0 ≡ departed = omega arith in ap (λ d. slots n (phase l (moved box) 0) l numbers (moved box) d) z ∙ rest-from n departed l numbers (moved box) h
-answered n l numbers box departed (Stepped.Sending serial left) h = let z : departed + 0 ≡ departed = omega arith in ap (λ d. slots n (phase l (moved box) 0) l numbers (moved box) d) z ∙ rest-from n departed l numbers (moved box) h
-answered n l numbers box departed (Stepped.Departed serial connection arrival departure) h = rest-from n (departed + 1) l numbers (moved box) h
+answered n l numbers box departed Stepped.Idle h =
+    let z : departed + 0 ≡ departed = omega arith in
+    ap (λ d. slots n (phase l (moved box) 0) l numbers (moved box) d) z ∙ rest-from n departed l numbers (moved box) h
+answered n l numbers box departed (Stepped.Sending serial left) h =
+    let z : departed + 0 ≡ departed = omega arith in
+    ap (λ d. slots n (phase l (moved box) 0) l numbers (moved box) d) z ∙ rest-from n departed l numbers (moved box) h
+answered n l numbers box departed (Stepped.Departed serial connection arrival departure) h =
+    rest-from n (departed + 1) l numbers (moved box) h
 answered n l numbers box departed (Stepped.Refused why) h =
     rw (refused-phase l box why) (stop-line n (refusalNumber why) l numbers box (departed + 0) (omega arith))
 
@@ -62,10 +72,12 @@ rest-goes-on l numbers box departed e =
     let out = departures numbers answer in
     rw e
     (append-assoc (offers .lines) out _ ∙
-    ap (λ (m : List Line). offers .lines ++ (out ++ m)) (answered (potential l box) l numbers (offers .box) departed answer (falls numbers l box e)))
+    ap (λ (m : List Line). offers .lines ++ (out ++ m))
+    (answered (potential l box) l numbers (offers .box) departed answer (falls numbers l box e)))
 
 -- The potential falls over a slot, so that a run ends.
-pub slot-falls : (l : List (Placed Arrival)) (numbers : List ℕ) (box : Box) → finished l box ≡ false → potential l (moved (offerAll numbers (dueNow l box) box .box)) < potential l box
+pub slot-falls : (l : List (Placed Arrival)) (numbers : List ℕ) (box : Box) → finished l box ≡ false
+    → potential l (moved (offerAll numbers (dueNow l box) box .box)) < potential l box
 slot-falls l numbers box e = falls numbers l box e
 
 -- The whole run is the lines of the admissions and the rest from there on.
@@ -79,4 +91,5 @@ open-run plan =
     let l = placedFrom 1 (plan .arrivals) in
     let w = admissions-weight 1 (plan .connections) start in
     ap (λ (m : List Line). admissions .lines ++ m)
-    (rest-from (slotsEnough l) 0 l (admissions .numbers) (admissions .box) (start-potential l (admissions .box) (w .0) (w .1 ∙ new-weight (plan .settings))))
+    (rest-from (slotsEnough l) 0 l (admissions .numbers) (admissions .box)
+    (start-potential l (admissions .box) (w .0) (w .1 ∙ new-weight (plan .settings))))

@@ -1,17 +1,17 @@
 -- The bound on the slots of a run, `slotsEnough`, is enough: more slots change no line.
 use Prim.Native.Nat.{ℕ, zero, suc, _+_, _-_, _≤_, _<_, max}
-use mathlib.Core.Path.{_≡_, refl, sym, ap, _∙_, subst}
-use mathlib.Core.Bool.{Bool, true, false, cond, not, _&&_, true≢false}
+use mathlib.Core.Path.{_≡_, refl, ap, _∙_}
+use mathlib.Core.Bool.{Bool, true, false, cond, _&&_, true≢false}
 use mathlib.Core.List.{List, [], _∷_, _++_, flatten}
 use mathlib.Core.Logic.{_⊎_, inl, inr, ⊎-elim}
 use mathlib.Core.Option.{Option, none, some}
 use native.Mathlib.Omega.{arith}
-use lib.ListN.{length, replicate, length-append}
-use lib.Dec.{leb, ltb, eqb, leb·zero}
-use borrow.Author.Tests.{leb-true, leb-false, le-leb, lt-leb, ltb-true, ltb-false, eqb-true, eqb-false, eq-eqb, ne-eqb}
-use Rattle.laws.specs.Tests.{every, bool-cases}
+use lib.ListN.{length, length-append}
+use lib.Dec.{leb, ltb, eqb}
+use borrow.Author.Tests.{leb-false, ltb-false, eqb-false}
+use Rattle.laws.specs.Tests.{every}
 use Rattle.laws.specs.Lists.{Placed, keep, placedFrom}
-use Rattle.laws.specs.Sums.{sumOf, largestOf, sum-append, length-sum, sum-add}
+use Rattle.laws.specs.Sums.{sumOf, largestOf, sum-append, length-sum}
 use Rattle.meaning.specs.declared.Admitted.{Admitted}
 use Rattle.meaning.specs.declared.Offered.{Offered}
 use Rattle.meaning.specs.declared.Stepped.{Stepped}
@@ -25,8 +25,9 @@ use Rattle.meaning.specs.Calls.{newBox, withStanding, admissionAnswer, a
 use Rattle.meaning.specs.Step.{loaded, linkTaken, queuesTaken, linkSent, turnDue, stepAnswer, queuesStepped, moved, afterStep}
 use Rattle.meaning.specs.declared.Arrival.{Arrival}
 use Rattle.meaning.specs.Plan.{Plan}
-use Rattle.meaning.specs.Run.{Line, AfterOffers, Phase, going, ended, stopped, admitAll, numberOf, offerAll, departures, finished, phase, slots, slotsEnough}
-use Rattle.meaning.specs.Rest.{size, linkWeight, weight, arrivalSize, from, potential, dueNow}
+use Rattle.meaning.specs.Run.{Line, AfterOffers, going, ended, stopped, admitAll, numberOf, offerAll, departures, finished}
+use Rattle.meaning.specs.Run.{phase, slots, slotsEnough}
+use Rattle.meaning.specs.Rest.{size, linkWeight, weight, arrivalSize, from, potential}
 use Rattle.meaning.proofs.Readings.{refused-phase}
 use Rattle.meaning.proofs.ArrivalSums.{next-slot, from-start}
 use Rattle.meaning.proofs.QueueLaws.{nothing-waits, nothing-taken, flatten-last, empty-flatten}
@@ -38,23 +39,28 @@ joined-most k p [] = omega arith
 joined-most zero p (q ∷ qs) = simp (sum-append) (omega arith)
 joined-most (suc k) p (q ∷ qs) = let i = joined-most k p qs in simp (sum-append) (omega arith)
 
+-- Joining a tail leaves no less to send.
 joined-least : (k : ℕ) (p : Packet) (qs : List (List Packet)) → sumOf size (flatten qs) ≤ sumOf size (flatten (joinTail k p qs))
 unfolding joinTail flatten sumOf
 joined-least k p [] = omega arith
 joined-least zero p (q ∷ qs) = simp (sum-append) (omega arith)
 joined-least (suc k) p (q ∷ qs) = let i = joined-least k p qs in simp (sum-append) (omega arith)
 
-taken-sum : (p : Packet) (qs : List (List Packet)) → lowestHead qs ≡ some p → sumOf size (flatten qs) ≡ size p + sumOf size (flatten (withoutLowestHead qs))
+-- What was to send is what the lowest head has and what the other packets have.
+taken-sum : (p : Packet) (qs : List (List Packet)) → lowestHead qs ≡ some p
+    → sumOf size (flatten qs) ≡ size p + sumOf size (flatten (withoutLowestHead qs))
 unfolding lowestHead withoutLowestHead flatten sumOf
 taken-sum p [] e = absurd (let z : _≡_ {A = ℕ} 0 1 = cc in omega arith)
 taken-sum p ([] ∷ qs) e = taken-sum p qs e
 taken-sum p ((x ∷ q) ∷ qs) e = let i : x ≡ p = cc in ap (λ y. size y + sumOf size (q ++ flatten qs)) i
 
+-- A turn leaves as much to send.
 turned-sum : (qs : List (List Packet)) → sumOf size (flatten (turned qs)) ≡ sumOf size (flatten qs)
 unfolding turned flatten
 turned-sum [] = refl
 turned-sum (q ∷ qs) = simp (flatten-last, sum-append) (omega arith)
 
+-- No packets have nothing to send.
 no-size : sumOf size [] ≡ 0
 unfolding sumOf
 no-size = refl
@@ -80,13 +86,15 @@ sent-less free qs = by-head (lowestHead qs) refl
         → sumOf size (flatten (withoutLowestHead qs)) + linkWeight (linkSent (loaded o)) ≤ sumOf size (flatten qs) + 0 - 1
     by-head none e =
         let s = sent-weight free in
-        let z : sumOf size (flatten (withoutLowestHead qs)) ≡ 0 = ap (λ q. sumOf size (flatten q)) (nothing-taken qs e) ∙ ap (sumOf size) (nothing-waits qs e) ∙ no-size in
+        let z : sumOf size (flatten (withoutLowestHead qs)) ≡ 0 =
+        ap (λ q. sumOf size (flatten q)) (nothing-taken qs e) ∙ ap (sumOf size) (nothing-waits qs e) ∙ no-size in
         omega arith
     by-head (some p) e =
         let s = sent-weight (carries p (p .units)) in
         let t = taken-sum p qs e in
         omega arith
 
+-- A step leaves less to send, if anything was.
 step-weight : (box : Box) → weight (moved box) ≤ weight box - 1
 unfolding weight moved queuesStepped
 step-weight box = turn (turnDue box) (sent-less (box .link) (box .queues))
@@ -94,7 +102,8 @@ step-weight box = turn (turnDue box) (sent-less (box .link) (box .queues))
     turn : (due : Bool)
         → sumOf size (flatten (queuesTaken (box .link) (box .queues))) + linkWeight (linkSent (linkTaken (box .link) (box .queues)))
         ≤ sumOf size (flatten (box .queues)) + linkWeight (box .link) - 1
-        → sumOf size (flatten (cond due (turned (queuesTaken (box .link) (box .queues))) (queuesTaken (box .link) (box .queues)))) + linkWeight (linkSent (linkTaken (box .link) (box .queues)))
+        → sumOf size (flatten (cond due (turned (queuesTaken (box .link) (box .queues))) (queuesTaken (box .link) (box .queues)))) +
+        linkWeight (linkSent (linkTaken (box .link) (box .queues)))
         ≤ sumOf size (flatten (box .queues)) + linkWeight (box .link) - 1
     turn true h = rw (turned-sum (queuesTaken (box .link) (box .queues))) h
     turn false h = h
@@ -105,6 +114,7 @@ record Offering (box after : Box) (more : ℕ) : Type 0 where
   most : weight after ≤ weight box + more
   least : weight box ≤ weight after
 
+-- An offer leaves the counter and no less to send, and adds at most its units and one more.
 offer-weight : (box : Box) (n units : ℕ) (answer : Offered) → Offering box (afterOffer box n units answer) (suc units)
 unfolding afterOffer weight joined
 offer-weight box n units (Offered.Accepted serial) =
@@ -114,7 +124,9 @@ offer-weight box n units (Offered.Accepted serial) =
     record { counter-stays = refl; most = omega arith; least = omega arith }
 offer-weight box n units (Offered.Refused why) = record { counter-stays = refl; most = omega arith; least = omega arith }
 
-offers-weight : (numbers : List ℕ) (l : List (Placed Arrival)) (box : Box) → Offering box (offerAll numbers l box .box) (sumOf arrivalSize l)
+-- The offers of a slot leave the counter and no less to send, and add at most what their arrivals can.
+offers-weight : (numbers : List ℕ) (l : List (Placed Arrival)) (box : Box)
+    → Offering box (offerAll numbers l box .box) (sumOf arrivalSize l)
 unfolding offerAll sumOf
 offers-weight numbers [] box = record { counter-stays = refl; most = omega arith; least = omega arith }
 offers-weight numbers (a ∷ l) box =
@@ -128,7 +140,8 @@ offers-weight numbers (a ∷ l) box =
     record { counter-stays = rest .counter-stays ∙ one .counter-stays; most = omega arith; least = omega arith }
 
 -- A run that is not finished has an arrival to come or something to send.
-some-to-come : (slot : ℕ) (l : List (Placed Arrival)) → every (λ a. ltb (a .entry .slot) slot) l ≡ false → slot ≤ largestOf (λ a. a .entry .slot) l
+some-to-come : (slot : ℕ) (l : List (Placed Arrival)) → every (λ a. ltb (a .entry .slot) slot) l ≡ false
+    → slot ≤ largestOf (λ a. a .entry .slot) l
 unfolding every largestOf
 some-to-come slot [] e = absurd (true≢false e)
 some-to-come slot (a ∷ l) e = go (ltb (a .entry .slot) slot) refl (some-to-come slot l) e
@@ -142,11 +155,13 @@ some-to-come slot (a ∷ l) e = go (ltb (a .entry .slot) slot) refl (some-to-com
         let h = ltb-false (a .entry .slot) slot t in
         omega (arith, native.Mathlib.Nat.le-max-left (a .entry .slot) (largestOf (λ a. a .entry .slot) l))
 
+-- A link that carries a packet has something to send.
 link-length : (l : Link) → length (onLink l) ≤ linkWeight l
 unfolding onLink linkWeight
 link-length free = omega arith
 link-length (carries p left) = omega arith
 
+-- A box that is not empty has something to send.
 some-to-send : (box : Box) → eqb (length (packets box)) 0 ≡ false → 1 ≤ weight box
 unfolding weight packets waiting
 some-to-send box e =
@@ -156,7 +171,9 @@ some-to-send box e =
     let k = link-length (box .link) in
     omega arith
 
-not-finished : (l : List (Placed Arrival)) (box : Box) → finished l box ≡ false → (box .counter ≤ largestOf (λ a. a .entry .slot) l) ⊎ (1 ≤ weight box)
+-- In a run that is not finished the last arrival slot has not passed or something is left to send.
+not-finished : (l : List (Placed Arrival)) (box : Box) → finished l box ≡ false
+    → (box .counter ≤ largestOf (λ a. a .entry .slot) l) ⊎ (1 ≤ weight box)
 unfolding finished
 not-finished l box f = go (every (λ a. ltb (a .entry .slot) (box .counter)) l) refl f
   where
@@ -214,17 +231,22 @@ enough (suc n) k l numbers box departed h =
     let p = falls numbers l box f in
     let one = not-finished l box f in
     let q : 1 ≤ potential l box = omega arith in
-    after-step-same n k l numbers after (departed + length out) (stepAnswer after) (omega arith) (enough n k l numbers (moved after) (departed + length out) (omega arith))))
+    after-step-same n k l numbers after (departed + length out) (stepAnswer after) (omega arith)
+    (enough n k l numbers (moved after) (departed + length out) (omega arith))))
   where
     afterOffers : AfterOffers
     afterOffers = offerAll numbers (keep (λ a. eqb (a .entry .slot) (box .counter)) l) box
 
     go : (f : Bool) → finished l box ≡ f
         → (finished l box ≡ false
-        → slots (n + k) (phase l (afterStep (afterOffers .box) (stepAnswer (afterOffers .box))) (stepped (stepAnswer (afterOffers .box)) .number)) l numbers
-        (afterStep (afterOffers .box) (stepAnswer (afterOffers .box))) (departed + length (departures numbers (stepAnswer (afterOffers .box))))
-        ≡ slots n (phase l (afterStep (afterOffers .box) (stepAnswer (afterOffers .box))) (stepped (stepAnswer (afterOffers .box)) .number)) l numbers
-        (afterStep (afterOffers .box) (stepAnswer (afterOffers .box))) (departed + length (departures numbers (stepAnswer (afterOffers .box)))))
+        → slots (n + k) (phase l (afterStep (afterOffers .box) (stepAnswer (afterOffers .box)))
+        (stepped (stepAnswer (afterOffers .box)) .number)) l numbers
+        (afterStep (afterOffers .box) (stepAnswer (afterOffers .box)))
+        (departed + length (departures numbers (stepAnswer (afterOffers .box))))
+        ≡ slots n (phase l (afterStep (afterOffers .box) (stepAnswer (afterOffers .box)))
+        (stepped (stepAnswer (afterOffers .box)) .number)) l numbers
+        (afterStep (afterOffers .box) (stepAnswer (afterOffers .box)))
+        (departed + length (departures numbers (stepAnswer (afterOffers .box)))))
         → slots (suc (n + k)) (cond f ended going) l numbers box departed ≡ slots (suc n) (cond f ended going) l numbers box departed
     go true e ih = refl
     go false e ih = ap (λ (m : List Line). afterOffers .lines ++ departures numbers (stepAnswer (afterOffers .box)) ++ m) (ih e)
@@ -236,6 +258,7 @@ unfolding afterAdmission withStanding weight
 admission-weight box c (Admitted.Taken n) = (refl, refl)
 admission-weight box c (Admitted.Refused why) = (refl, refl)
 
+-- The admissions leave the counter and what is left to send.
 pub admissions-weight : (place : ℕ) (cs : List Connection) (box : Box)
     → (admitAll place cs box .box .counter ≡ box .counter) × (weight (admitAll place cs box .box) ≡ weight box)
 unfolding admitAll
@@ -245,10 +268,12 @@ admissions-weight place (c ∷ cs) box =
     let rest = admissions-weight (suc place) cs (afterAdmission box c (admissionAnswer box c)) in
     (rest .0 ∙ one .0, rest .1 ∙ one .1)
 
+-- A new box has nothing to send.
 pub new-weight : (opening : Settings) → weight (newBox opening) ≡ 0
 unfolding weight newBox emptyQueues linkWeight
 new-weight opening = let e = ap (sumOf size) (empty-flatten {A = Packet} (suc (largestFactor opening))) ∙ no-size in omega arith
 
+-- At counter 0 with nothing to send, less is to come than `slotsEnough` slots.
 pub start-potential : (l : List (Placed Arrival)) (box : Box) → box .counter ≡ 0 → weight box ≡ 0 → potential l box < slotsEnough l
 unfolding potential slotsEnough
 start-potential l box c w =
@@ -267,4 +292,5 @@ slots-enough plan k =
     let admissions = admitAll 1 (plan .connections) start in
     let l = placedFrom 1 (plan .arrivals) in
     let w = admissions-weight 1 (plan .connections) start in
-    enough (slotsEnough l) k l (admissions .numbers) (admissions .box) 0 (start-potential l (admissions .box) (w .0) (w .1 ∙ new-weight (plan .settings)))
+    enough (slotsEnough l) k l (admissions .numbers) (admissions .box) 0
+    (start-potential l (admissions .box) (w .0) (w .1 ∙ new-weight (plan .settings)))

@@ -23,28 +23,36 @@ use Rattle.meaning.proofs.KeptByStep.{taken}
 use Rattle.meaning.proofs.TextMost.{PrintedLine, AllPrinted}
 use Rattle.meaning.proofs.OfferLines.{accepted-printed}
 
+-- A free link that takes a packet makes no packet more.
 taken-count : (link : Link) (qs : List (List Packet))
     → length (flatten (queuesTaken link qs)) + length (onLink (linkTaken link qs)) ≤ length (flatten qs) + length (onLink link)
 unfolding queuesTaken linkTaken loaded onLink
 taken-count (carries p left) qs = omega arith
 taken-count free qs = go (lowestHead qs) refl
   where
-    go : (o : Option Packet) → lowestHead qs ≡ o → length (flatten (withoutLowestHead qs)) + length (onLink (loaded o)) ≤ length (flatten qs) + 0
+    go : (o : Option Packet) → lowestHead qs ≡ o
+        → length (flatten (withoutLowestHead qs)) + length (onLink (loaded o)) ≤ length (flatten qs) + 0
     go none e = let s = ap (λ q. length (flatten q)) (nothing-taken qs e) in omega arith
     go (some p) e = let s = without-length qs p e in omega arith
 
+-- Once a unit is sent, the packet is on the link or has a line of its departure, not both.
 sent-count : (numbers : List ℕ) (departure : ℕ) (link : Link)
     → length (onLink (linkSent link)) + length (departures numbers (sentAnswer departure link)) ≤ length (onLink link)
 unfolding linkSent sentAnswer departures onLink
 sent-count numbers departure free = omega arith
 sent-count numbers departure (carries p left) = go (leb left 1)
   where
-    go : (b : Bool) → length (onLink (cond b free (carries p (left - 1)))) + length (departures numbers (cond b (Stepped.Departed (p .serial) (p .connection) (p .arrival) departure) (Stepped.Sending (p .serial) (left - 1)))) ≤ 1
+    go : (b : Bool)
+        → length (onLink (cond b free (carries p (left - 1)))) +
+        length (departures numbers
+        (cond b (Stepped.Departed (p .serial) (p .connection) (p .arrival) departure) (Stepped.Sending (p .serial) (left - 1)))) ≤ 1
     go true = omega arith
     go false = omega arith
 
+-- The packets after a step and its lines of departure are at most the packets before it.
 pub moved-count : (numbers : List ℕ) (box : Box)
-    → length (packets (moved box)) + length (departures numbers (sentAnswer (suc (box .counter)) (linkTaken (box .link) (box .queues)))) ≤ length (packets box)
+    → length (packets (moved box)) +
+    length (departures numbers (sentAnswer (suc (box .counter)) (linkTaken (box .link) (box .queues)))) ≤ length (packets box)
 unfolding moved packets waiting queuesStepped
 moved-count numbers box =
     let a = taken-count (box .link) (box .queues) in
@@ -62,7 +70,8 @@ unfolding placeOf
 place-most place [] n = omega arith
 place-most place (m ∷ numbers) n = go (eqb m n) (place-most (suc place) numbers n)
   where
-    go : (b : Bool) → placeOf (suc place) numbers n ≤ suc place + length numbers → cond b place (placeOf (suc place) numbers n) ≤ place + suc (length numbers)
+    go : (b : Bool) → placeOf (suc place) numbers n ≤ suc place + length numbers
+        → cond b place (placeOf (suc place) numbers n) ≤ place + suc (length numbers)
     go true h = omega arith
     go false h = omega arith
 
@@ -79,7 +88,8 @@ sent-printed numbers box e s =
     c : box .counter ≤ lastSlot
     c = sound-facts box e .counter-most
 
-    line : (p : Packet) → List·Memᴰ p (packets box) → PrintedLine (departLine (p .serial) (placeOf 1 numbers (p .connection)) (p .arrival) (suc (box .counter)))
+    line : (p : Packet) → List·Memᴰ p (packets box)
+        → PrintedLine (departLine (p .serial) (placeOf 1 numbers (p .connection)) (p .arrival) (suc (box .counter)))
     line p m =
         let f = packet-facts box p (every-at (packetKept box) (packets box) (sound-facts box e .packets-kept) m) in
         let x = f .serial-most in
@@ -89,11 +99,15 @@ sent-printed numbers box e s =
         let h = c in
         (omega arith, omega arith, omega arith, omega arith)
 
-    by-link : (l : Link) → ((p : Packet) → List·Memᴰ p (onLink l) → List·Memᴰ p (packets box)) → AllPrinted (departures numbers (sentAnswer (suc (box .counter)) l))
+    by-link : (l : Link) → ((p : Packet) → List·Memᴰ p (onLink l) → List·Memᴰ p (packets box))
+        → AllPrinted (departures numbers (sentAnswer (suc (box .counter)) l))
     by-link free h = λ k m. absurd (List·Memᴰ·not-nil m)
     by-link (carries p left) h = go (leb left 1)
       where
-        go : (b : Bool) → AllPrinted (departures numbers (cond b (Stepped.Departed (p .serial) (p .connection) (p .arrival) (suc (box .counter))) (Stepped.Sending (p .serial) (left - 1))))
+        go : (b : Bool)
+            → AllPrinted (departures numbers
+            (cond b (Stepped.Departed (p .serial) (p .connection) (p .arrival) (suc (box .counter)))
+            (Stepped.Sending (p .serial) (left - 1))))
         go true = λ k m. subst PrintedLine (sym (List·Memᴰ·eq-of-singleton m)) (line p (h p (List·Memᴰ·head refl)))
         go false = λ k m. absurd (List·Memᴰ·not-nil m)
 
@@ -102,6 +116,7 @@ pub data Outcome (box : Box) : Stepped → Type 0 where
   moves : Outcome box (sentAnswer (suc (box .counter)) (linkTaken (box .link) (box .queues)))
   refuses : (why : Refusal) → Outcome box (Stepped.Refused why)
 
+-- A step of a sound box moves it, or is refused with 12 or 11.
 pub outcome : (box : Box) → sound box ≡ true → Outcome box (stepAnswer box)
 unfolding stepAnswer
 outcome box e = rw e (go (leb lastSlot (box .counter)) (turnDue box && tagZeroWaits (queuesTaken (box .link) (box .queues))))
@@ -114,16 +129,19 @@ outcome box e = rw e (go (leb lastSlot (box .counter)) (turnDue box && tagZeroWa
     go false true = refuses Refusal.TurnBlocked
     go false false = moves
 
+-- The answer of a step that sends has the number 0.
 pub sent-number : (departure : ℕ) (link : Link) → stepped (sentAnswer departure link) .number ≡ 0
 unfolding sentAnswer stepped
 sent-number departure free = refl
 sent-number departure (carries p left) = go (leb left 1)
   where
-    go : (b : Bool) → stepped (cond b (Stepped.Departed (p .serial) (p .connection) (p .arrival) departure) (Stepped.Sending (p .serial) (left - 1))) .number ≡ 0
+    go : (b : Bool)
+        → stepped (cond b (Stepped.Departed (p .serial) (p .connection) (p .arrival) departure)
+        (Stepped.Sending (p .serial) (left - 1))) .number ≡ 0
     go true = refl
     go false = refl
 
--- a step raises the counter by one
+-- A step raises the counter by one.
 pub moved-counter : (box : Box) → moved box .counter ≡ suc (box .counter)
 unfolding moved
 moved-counter box = refl

@@ -1,14 +1,10 @@
 -- The text of a run is never longer than `textMost` bytes, so a buffer of that size holds the text of every plan.
-use Prim.Native.Nat.{ℕ, zero, suc, _+_, _*_, _-_, _/_, _%_, _^_, _≤_, _<_, max}
-use mathlib.Core.Path.{_≡_, refl, sym, ap, _∙_, subst}
-use mathlib.Core.Bool.{Bool, true, false, cond, not, _&&_, true≢false}
-use mathlib.Core.List.{List, [], _∷_, _++_, map, flatten, List·Memᴰ, List·Memᴰ·head, List·Memᴰ·tail}
-use mathlib.Core.Logic.{_⊎_, inl, inr, ⊎-elim}
-use native.Mathlib.Nat.{div-lt-iff-lt-mul}
+use Prim.Native.Nat.{ℕ, zero, suc, _*_, _/_, _%_, _^_, _≤_, _<_}
+use mathlib.Core.Path.{refl}
+use mathlib.Core.List.{List, [], _∷_, map, flatten, List·Memᴰ, List·Memᴰ·head, List·Memᴰ·tail}
 use native.Mathlib.Decide.{decLt}
 use native.Mathlib.Omega.{arith}
-use lib.ListN.{length, getD, length-append}
-use lib.Dec.{leb, ltb, eqb}
+use lib.ListN.{length, length-append}
 use Rattle.meaning.specs.Run.{Line, admitLine, offerLine, departLine, endLine, refusedLine, stopLine}
 use Rattle.meaning.specs.Lines.{ascii, digit, decimal, numbersText, lineOf, lineText, textOf}
 use Rattle.meaning.proofs.Decimal.{decimal-small, decimal-large}
@@ -29,6 +25,7 @@ digits-most (suc k) n h =
 abbrev pub Printed : ℕ → Type 0
 Printed n = n < 10000000000
 
+-- A printed number has at most ten digits.
 printed-most : (n : ℕ) → Printed n → length (decimal n) ≤ 10
 printed-most n h = digits-most 9 n h
 
@@ -41,12 +38,13 @@ PrintedLine (endLine a b c) = Printed a × Printed b × Printed c
 PrintedLine (refusedLine a) = Printed a
 PrintedLine (stopLine a) = Printed a
 
--- has at most 51 bytes.
+-- A line whose numbers are printed numbers has at most 51 bytes.
 line-most : (l : Line) → PrintedLine l → length (lineText l) ≤ 51
 unfolding lineText lineOf numbersText ascii
 line-most (admitLine a b c) p = simp length-append (omega (arith, printed-most a (p .0), printed-most b (p .1), printed-most c (p .2)))
 line-most (offerLine a b c) p = simp length-append (omega (arith, printed-most a (p .0), printed-most b (p .1), printed-most c (p .2)))
-line-most (departLine a b c d) p = simp length-append (omega (arith, printed-most a (p .0), printed-most b (p .1), printed-most c (p .2), printed-most d (p .3)))
+line-most (departLine a b c d) p =
+    simp length-append (omega (arith, printed-most a (p .0), printed-most b (p .1), printed-most c (p .2), printed-most d (p .3)))
 line-most (endLine a b c) p = simp length-append (omega (arith, printed-most a (p .0), printed-most b (p .1), printed-most c (p .2)))
 line-most (refusedLine a) p = simp length-append (omega (arith, printed-most a p))
 line-most (stopLine a) p = simp length-append (omega (arith, printed-most a p))

@@ -1,4 +1,5 @@
--- Document 01, "Admission": the rate, conditions (11) and (12) of source document 004, Theorem 2, and the search for the first t that fails.
+-- Document 01, "Admission": the rate, conditions (11) and (12) of source document 004, Theorem 2, and the search for the first t that
+-- fails.
 use Prim.Native.Nat.{ℕ, _+_, _*_, _/_}
 use mathlib.Core.Path.{_≡_}
 use mathlib.Core.Bool.{Bool, true, cond, not, _&&_, _||_}

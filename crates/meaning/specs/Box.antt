@@ -1,5 +1,5 @@
 -- Document 01, "The box": its contents, and when they are sound.
-use Prim.Native.Nat.{ℕ, zero, suc, _+_, _-_, _/_}
+use Prim.Native.Nat.{ℕ, suc, _+_, _-_, _/_}
 use mathlib.Core.Bool.{Bool, true, _&&_}
 use mathlib.Core.List.{List, [], _∷_, _++_, map, flatten}
 use lib.ListN.{length, getD}
@@ -8,8 +8,8 @@ use Rattle.laws.specs.Tests.{within, every}
 use Rattle.meaning.specs.declared.Connection.{Connection}
 use Rattle.meaning.specs.declared.Packet.{Packet}
 use Rattle.meaning.specs.declared.Standing.{Standing}
-use Rattle.meaning.specs.Numbers.{Settings, largestFactor, settingsAllowed, connectionAllowed, risingAbove, mostConnections, mostWaiting, lastSlot}
-use Rattle.meaning.specs.declared.Allowance.{Allowance}
+use Rattle.meaning.specs.Numbers.{Settings, largestFactor, settingsAllowed, connectionAllowed, risingAbove, mostConnections}
+use Rattle.meaning.specs.Numbers.{mostWaiting, lastSlot}
 use Rattle.meaning.specs.Envelope.{allowanceKept}
 use Rattle.meaning.specs.Queues.{rank}
 

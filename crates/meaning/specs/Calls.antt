@@ -1,7 +1,7 @@
 -- Document 01: opening, admission and offering, on the contents of a box. Each call has its answer, with the refusals in the order of
 -- "Answer numbers", and what the box is after that answer.
 use Prim.Native.Nat.{ℕ, suc, _-_}
-use mathlib.Core.Bool.{Bool, cond, not}
+use mathlib.Core.Bool.{cond, not}
 use mathlib.Core.List.{List, [], _∷_, _++_, map}
 use lib.ListN.{length, getD, set}
 use lib.Dec.{leb, ltb}
@@ -19,7 +19,7 @@ use Rattle.meaning.specs.Admission.{rateHolds, finiteSearch}
 use Rattle.meaning.specs.Queues.{emptyQueues, joinTail}
 use Rattle.meaning.specs.declared.Standing.{Standing}
 use Rattle.meaning.specs.declared.Packet.{Packet}
-use Rattle.meaning.specs.Box.{Box, Link, free, connections, connection, noConnection, stands, waiting, sound}
+use Rattle.meaning.specs.Box.{Box, free, connections, connection, noConnection, stands, waiting, sound}
 
 -- A new box: no connection stands, nothing waits, the link is free and the counter is 0.
 unfoldable pub newBox : Settings → Box

@@ -17,11 +17,11 @@ pub record Settings : Type 0 where
 unfoldable pub classCount : Settings → ℕ
 classCount set = length (set .factors)
 
--- rp, the factor of class p; classes are numbered from 1.
+-- The factor rp of class p; classes are numbered from 1.
 unfoldable pub factor : Settings → ℕ → ℕ
 factor set p = getD (set .factors) (p - 1) 0
 
--- rP, the factor of the last class.
+-- The factor rP of the last class.
 unfoldable pub largestFactor : Settings → ℕ
 largestFactor set = factor set (classCount set)
 
@@ -29,7 +29,7 @@ largestFactor set = factor set (classCount set)
 unfoldable pub bound : Settings → ℕ → ℕ
 bound set p = factor set p * set .interval
 
--- dP, the largest bound rP x D.
+-- The largest bound dP, which is rP x D.
 unfoldable pub largestBound : Settings → ℕ
 largestBound set = bound set (classCount set)
 

@@ -58,9 +58,11 @@ headerOf ws =
 abbrev pub classesStart : ℕ
 classesStart = 40
 
+-- The byte at which the connections start, after 4 bytes for each class.
 abbrev pub connectionsStart : ℕ → ℕ
 connectionsStart classes = classesStart + 4 * classes
 
+-- The byte at which the arrivals start, after 16 bytes for each connection.
 abbrev pub arrivalsStart : ℕ → ℕ → ℕ
 arrivalsStart classes connections = connectionsStart classes + 16 * connections
 
@@ -76,9 +78,11 @@ countsAllowed classes connections arrivals = leb classes 8 && leb connections 32
 unfoldable pub factorAt : List ℕ → ℕ → ℕ
 factorAt ws i = getD ws i 0
 
+-- The connection whose entry starts at this word.
 unfoldable pub connectionAt : List ℕ → ℕ → Connection
 connectionAt ws i = record { class = getD ws i 0; longest = getD ws (i + 1) 0; burst = getD ws (i + 2) 0; period = getD ws (i + 3) 0 }
 
+-- The arrival whose entry starts at this word.
 unfoldable pub arrivalAt : List ℕ → ℕ → Arrival
 arrivalAt ws i = record { slot = getD ws i 0; place = getD ws (i + 1) 0; units = getD ws (i + 2) 0 }
 
@@ -145,6 +149,7 @@ readingAnswer bytes =
 unfoldable pub connectionWords : Connection → List ℕ
 connectionWords c = c .class ∷ c .longest ∷ c .burst ∷ c .period ∷ []
 
+-- The words of an arrival's entry.
 unfoldable pub arrivalWords : Arrival → List ℕ
 arrivalWords a = a .slot ∷ a .place ∷ a .units ∷ []
 

@@ -120,8 +120,11 @@ module _ {A : Type 0} (D : ℕ) where
   unfoldable pub byRanks : Move A → At (List (Ranked A)) → Seen A × At (List (Ranked A))
   byRanks (accept r p) s =
       (accepted, record { slot = s .slot; waiting = s .waiting ++ (record { rankIs = s .slot / D + r; packet = p } ∷ []) })
-  byRanks take s =
-      (taken (packetOf (lowestRank (s .waiting))), record { slot = s .slot; waiting = withoutChosen (lowestRank (s .waiting)) (s .waiting) })
+  byRanks take s = (
+    taken (packetOf (lowestRank (s .waiting))),
+    record
+        { slot = s .slot; waiting = withoutChosen (lowestRank (s .waiting)) (s .waiting) },
+  )
   byRanks raise s = raising s (turnAt D (suc (s .slot))) (rankWaits (s .slot / D) (s .waiting)) (s .waiting)
 
 -- What is seen of the moves, one after another.

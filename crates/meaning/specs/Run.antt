@@ -1,6 +1,6 @@
 -- Document 01, "The program and one whole run": from a plan to the lines that the program prints, as values.
 use Prim.Native.Nat.{ℕ, zero, suc, _+_, _-_}
-use mathlib.Core.Bool.{Bool, true, false, cond, _&&_}
+use mathlib.Core.Bool.{Bool, cond, _&&_}
 use mathlib.Core.List.{List, [], _∷_, _++_}
 use lib.ListN.{length, getD}
 use lib.Dec.{ltb, eqb}
@@ -9,7 +9,6 @@ use Rattle.laws.specs.Lists.{Placed, keep, placedFrom}
 use Rattle.laws.specs.Sums.{sumOf, largestOf}
 use Rattle.meaning.specs.declared.Opened.{Opened}
 use Rattle.meaning.specs.declared.Admitted.{Admitted}
-use Rattle.meaning.specs.declared.Offered.{Offered}
 use Rattle.meaning.specs.declared.Stepped.{Stepped}
 use Rattle.meaning.specs.declared.PlanRead.{PlanRead}
 use Rattle.meaning.specs.declared.Connection.{Connection}
@@ -18,7 +17,7 @@ use Rattle.meaning.specs.Answers.{refusalNumber, admitted, offered, step
 use Rattle.meaning.specs.Calls.{newBox, openingAnswer, admissionAnswer, afterAdmission, offerAnswer, afterOffer}
 use Rattle.meaning.specs.Step.{stepAnswer, afterStep}
 use Rattle.meaning.specs.declared.Arrival.{Arrival}
-use Rattle.meaning.specs.Plan.{Plan, wordsOf, headerOf, contentsOf, readingAnswer}
+use Rattle.meaning.specs.Plan.{Plan, wordsOf, contentsOf, readingAnswer}
 
 -- "`ADMIT` place, answer, t. `OFFER` arrival place, answer, serial or 0. `DEPART` serial, connection's place, arrival, departure.
 -- `END` counter, accepted, departed." "`REFUSED` and the number"; "`STOP` and the number".

@@ -11,7 +11,8 @@ use Rattle.memory.specs.Performed.{Performed, PerformedRun}
 use Rattle.memory.proofs.RunOnWords.{run-on-words}
 
 -- The promise of a call settles its answer and the words that it leaves.
-pub performed-call : (ws : List ℕ) (c : Call) (r : Reply) (exit : List ℕ) → Performed ws c r exit → (r ≡ replyOn ws c) × (exit ≡ leftBy ws c)
+pub performed-call : (ws : List ℕ) (c : Call) (r : Reply) (exit : List ℕ) → Performed ws c r exit
+    → (r ≡ replyOn ws c) × (exit ≡ leftBy ws c)
 unfolding Performed replyOn leftBy
 performed-call ws (admit c) (toAdmission r) exit p = (ap toAdmission (p .0), p .1)
 performed-call ws (admit c) (toOffer r) exit p = absurd p
@@ -37,7 +38,8 @@ performed-run ws (c ∷ calls) (r ∷ answers) exit p =
       rest .1 ∙ ap (λ l. leftByRun l calls) (q .1),
     )
 
--- "a run of the public calls on a lent slice gives the answers of the run on contents": on sound words calls that keep their promises answer
+-- "a run of the public calls on a lent slice gives the answers of the run on contents": on sound words calls that keep their promises
+-- answer
 -- as the box does, and leave sound words that stand for the box after the run.
 pub performed-on-contents : (ws : List ℕ) (calls : List Call) (answers : List Reply) (exit : List ℕ) → soundWords ws ≡ true →
     PerformedRun ws calls answers exit →

@@ -71,5 +71,6 @@ opening-keeps-beyond set ws = go (openingAnswer boxWords (length ws) set) refl
   where
     go : (r : Opened) → openingAnswer boxWords (length ws) set ≡ r → BeyondKept ws (afterOpening set ws r)
     go Opened.Done e =
-        unfold afterOpening in put-beyond (newBox set) ws (new-box-sound set (opened-allowed set ws (unfold opened in e))) (words-enough set ws (unfold opened in e))
+        unfold afterOpening in put-beyond (newBox set) ws (new-box-sound set (opened-allowed set ws (unfold opened in e)))
+        (words-enough set ws (unfold opened in e))
     go (Opened.Refused why) e = unfold afterOpening in (refl, refl)

@@ -26,7 +26,8 @@ use Rattle.words.specs.Sound.{soundWords}
 use Rattle.tables.specs.Opening.{opened}
 use Rattle.words.proofs.TestedSound.{sound-contents}
 use Rattle.multiplexer.specs.Promised.{admission, offering, stepping, wordsStepped}
-use Rattle.guarantees.specs.Runs.{Call, step, Departure, boxOf, after, trace, acceptedIn, departedIn, inOrder, slotsOf, WithinEnvelope, timesAmong, timesDeparted, dueBy, countFrom, InBox}
+use Rattle.guarantees.specs.Runs.{Call, step, Departure, boxOf, after, trace, acceptedIn, departedIn, inOrder, slotsOf, WithinEnvelope}
+use Rattle.guarantees.specs.Runs.{timesAmong, timesDeparted, dueBy, countFrom, InBox}
 use Rattle.guarantees.specs.Isolation.{asked, told, neverTen}
 use Rattle.guarantees.proofs.Admitting
 use Rattle.guarantees.proofs.Statements
@@ -42,6 +43,7 @@ offer-there : (ws : List ℕ) → soundWords ws ≡ true → (n units : ℕ) →
 unfolding offering
 offer-there ws h n units = rw h
 
+-- The answer of a step on sound words is that of their contents.
 step-there : (ws : List ℕ) → soundWords ws ≡ true → stepping ws ≡ stepAnswer (contents ws)
 unfolding stepping
 step-there ws h = rw h
@@ -60,11 +62,13 @@ module _ (ws : List ℕ) (h : soundWords ws ≡ true) (c : Connection) where
 
   -- With the numbers in range and room in the table, a connection is taken exactly when (11) and (12) hold at every t from 0 without end.
   pub taken-exactly-when : connectionAllowed (contents ws .settings) c ≡ true → length (contents ws .standing) < mostConnections →
-      (admission ws c ≡ Admitted.Taken (suc (length (contents ws .standing)))) ↔ HoldsWithoutEnd (contents ws .settings) (withNewcomer (contents ws) c)
+      (admission ws c ≡ Admitted.Taken (suc (length (contents ws .standing)))) ↔
+      HoldsWithoutEnd (contents ws .settings) (withNewcomer (contents ws) c)
   taken-exactly-when = rw admission-there (Admitting.taken-exactly-when (contents ws) c (sound-contents ws h))
 
   -- The t given with 6 is the least that fails.
-  pub least-that-fails : (t : ℕ) → admission ws c ≡ Admitted.Refused (Refusal.ConditionFails t) → Least (conditionAt (contents ws .settings) (withNewcomer (contents ws) c)) 0 t
+  pub least-that-fails : (t : ℕ) → admission ws c ≡ Admitted.Refused (Refusal.ConditionFails t)
+      → Least (conditionAt (contents ws .settings) (withNewcomer (contents ws) c)) 0 t
   least-that-fails = rw admission-there (Admitting.least-that-fails (contents ws) c)
 
   -- With answer 5 some t fails too.
@@ -77,6 +81,7 @@ module _ (set : Settings) (ws : List ℕ) (done : opened set ws .0 ≡ Opened.Do
   events : openedTrace set ws calls ≡ trace (newBox set) calls
   events = run-from-opening set ws done calls .0
 
+  -- The box that the words stand for after the calls is the box after them on contents.
   box : openedBox set ws calls ≡ boxOf set calls
   box = run-from-opening set ws done calls .2
 
@@ -98,9 +103,11 @@ module _ (set : Settings) (ws : List ℕ) (done : opened set ws .0 ≡ Opened.Do
   -- Turned away: an offer of permitted length that fits is refused only with 10, and only when 1,024 packets wait.
   pub turned-away-only-when-full : (n units : ℕ) → stands (openedBox set ws calls) n ≡ true →
       within 1 units (connection (openedBox set ws calls) n .longest) ≡ true →
-      fits (mayHave (connection (openedBox set ws calls) n)) (slotsOf n (acceptedIn (openedTrace set ws calls))) (openedBox set ws calls .counter) ≡ true →
+      fits (mayHave (connection (openedBox set ws calls) n)) (slotsOf n (acceptedIn (openedTrace set ws calls)))
+      (openedBox set ws calls .counter) ≡ true →
       (offering (openedWords set ws calls) n units ≡ Offered.Accepted (suc (openedBox set ws calls .accepted))) ⊎
-      ((offering (openedWords set ws calls) n units ≡ (Offered.Refused Refusal.StoreFull)) × (length (waiting (openedBox set ws calls)) ≡ mostWaiting))
+      ((offering (openedWords set ws calls) n units ≡ (Offered.Refused Refusal.StoreFull)) ×
+      (length (waiting (openedBox set ws calls)) ≡ mostWaiting))
   turned-away-only-when-full n units =
       rw (offer-there (openedWords set ws calls) every-run-sound n units, box, events)
       (Statements.turned-away-only-when-full set (opened-allowed set ws done) calls n units)
@@ -109,7 +116,8 @@ module _ (set : Settings) (ws : List ℕ) (done : opened set ws .0 ≡ Opened.Do
   pub nine-exactly-when-it-does-not-fit : (n units : ℕ) → stands (openedBox set ws calls) n ≡ true →
       within 1 units (connection (openedBox set ws calls) n .longest) ≡ true →
       (offering (openedWords set ws calls) n units ≡ (Offered.Refused Refusal.NotFitting)) ↔
-      (fits (mayHave (connection (openedBox set ws calls) n)) (slotsOf n (acceptedIn (openedTrace set ws calls))) (openedBox set ws calls .counter) ≡ false)
+      (fits (mayHave (connection (openedBox set ws calls) n)) (slotsOf n (acceptedIn (openedTrace set ws calls)))
+      (openedBox set ws calls .counter) ≡ false)
   nine-exactly-when-it-does-not-fit n units =
       rw (offer-there (openedWords set ws calls) every-run-sound n units, box, events)
       (Statements.nine-exactly-when-it-does-not-fit set (opened-allowed set ws done) calls n units)

@@ -38,9 +38,11 @@ traceOn ws (c ∷ cs) = record { slot = contents ws .counter; call = c; answer =
 abbrev pub openedTrace : Settings → List ℕ → List Call → List Event
 openedTrace set ws calls = traceOn (opened set ws .1) calls
 
+-- The words after a run from the words that an opening left.
 abbrev pub openedWords : Settings → List ℕ → List Call → List ℕ
 openedWords set ws calls = leftByRun (opened set ws .1) calls
 
+-- The box that the words stand for after a run from the words that an opening left.
 abbrev pub openedBox : Settings → List ℕ → List Call → Box
 openedBox set ws calls = contents (openedWords set ws calls)
 

@@ -1,24 +1,25 @@
 -- An admission in words: what sound words give the search, and the answers.
-use Prim.Native.Nat.{ℕ, suc, _+_, _*_, _%_, _≤_, _<_}
-use mathlib.Core.Path.{_≡_, refl, sym, ap, ap₂, _∙_, subst}
-use mathlib.Core.Bool.{Bool, true, false, cond, not, _&&_, and-true, and-false}
-use mathlib.Core.List.{List, [], _∷_, _++_, map}
+use Prim.Native.Nat.{ℕ, suc, _%_, _≤_, _<_}
+use mathlib.Core.Path.{_≡_, refl, sym, ap, _∙_, subst}
+use mathlib.Core.Bool.{true, false}
+use mathlib.Core.List.{List, [], _∷_, _++_}
 use native.Mathlib.Omega.{arith}
 use lib.ListN.{length, getD, length-map, List·getD-map}
-use lib.Dec.{leb, eqb}
-use borrow.Author.Tests.{le-leb, lt-leb, leb-true}
+use lib.Dec.{eqb}
+use borrow.Author.Tests.{le-leb, lt-leb}
 use Rattle.laws.specs.Tests.{within, every-at}
 use Rattle.laws.specs.Lists.{getD-member}
-use Rattle.laws.specs.Search.{Search, failsAt, holds}
+use Rattle.laws.specs.Search.{Search}
 use Rattle.laws.specs.Series.{length-series, getD-series}
 use Rattle.meaning.specs.declared.Refusal.{Refusal}
 use Rattle.meaning.specs.declared.Admitted.{Admitted}
 use Rattle.meaning.specs.declared.Connection.{Connection}
-use Rattle.meaning.specs.Numbers.{Settings, classCount, classAllowed, longestAllowed, burstAllowed, periodAllowed, connectionAllowed, mostConnections}
+use Rattle.meaning.specs.Numbers.{Settings, classCount, classAllowed, longestAllowed, burstAllowed, periodAllowed, connectionAllowed}
+use Rattle.meaning.specs.Numbers.{mostConnections}
 use Rattle.meaning.specs.Envelope.{full}
 use Rattle.meaning.specs.Admission.{rate, rateHolds, finiteSearch}
 use Rattle.meaning.specs.declared.Standing.{Standing}
-use Rattle.meaning.specs.Box.{Box, connections, noConnection, waiting, sound}
+use Rattle.meaning.specs.Box.{Box, connections, noConnection, sound}
 use Rattle.meaning.specs.Calls.{withNewcomer, searchAnswer, withStanding, admissionAnswer, afterAdmission}
 use Rattle.meaning.proofs.KeptByAdmission.{admission-keeps-sound}
 use Rattle.meaning.specs.declared.Standing.{Standing}
@@ -28,7 +29,7 @@ use Rattle.words.specs.Sound.{soundWords}
 use Rattle.words.specs.Changes.{Become}
 use Rattle.words.proofs.Counts.{sound-fitting}
 use Rattle.words.proofs.TestedSound.{sound-contents}
-use Rattle.admission.specs.Asking.{Ready, Allowed, withAsked}
+use Rattle.admission.specs.Asking.{Ready, withAsked}
 use Rattle.multiplexer.specs.Promised.{Leaves}
 use Rattle.multiplexer.proofs.Sounds.{facts, leaves-same, leaves}
 
@@ -137,6 +138,7 @@ module _ (b : Box) (c : Connection) (s : sound b ≡ true) where
 
 -- What an answer leaves.
 module _ (ws : List ℕ) (c : Connection) (h : soundWords ws ≡ true) where
+  -- The answer to the newcomer.
   abbrev answer : Admitted
   answer = admissionAnswer (contents ws) c
 

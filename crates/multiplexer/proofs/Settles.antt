@@ -8,7 +8,8 @@ use Rattle.meaning.specs.declared.Offered.{Offered}
 use Rattle.meaning.specs.declared.Stepped.{Stepped}
 use Rattle.meaning.specs.declared.Connection.{Connection}
 use Rattle.tables.proofs.Settles.{one}
-use Rattle.multiplexer.specs.Promises.{AdmitPromise, OfferPromise, StepPromise, AdmitSoundPromise, OfferSoundPromise, StepSoundPromise}
+use Rattle.multiplexer.specs.Promises.{AdmitPromise, OfferPromise, StepPromise, AdmitSoundPromise, OfferSoundPromise}
+use Rattle.multiplexer.specs.Promises.{StepSoundPromise}
 
 -- `multiplexer::admitting::admit`
 pub admit-settles : (entry : List ℕ) (class longest burst period : ℕ) (r s : Admitted) (after left : List ℕ) →
@@ -30,10 +31,12 @@ pub admit-sound-settles : (entry : List ℕ) (c : Connection) (r s : Admitted) (
     AdmitSoundPromise entry c r after → AdmitSoundPromise entry c s left → (r ≡ s) × (after ≡ left)
 admit-sound-settles entry c r s after left p q = (one (p .0) (q .0), one (p .1 .words-are) (q .1 .words-are))
 
+-- Two results of `offer_sound` that keep its promise are the same, and so are the words they leave.
 pub offer-sound-settles : (entry : List ℕ) (n units : ℕ) (r s : Offered) (after left : List ℕ) →
     OfferSoundPromise entry n units r after → OfferSoundPromise entry n units s left → (r ≡ s) × (after ≡ left)
 offer-sound-settles entry n units r s after left p q = (one (p .0) (q .0), one (p .1 .words-are) (q .1 .words-are))
 
+-- Two results of `step_sound` that keep its promise are the same, and so are the words they leave.
 pub step-sound-settles : (entry : List ℕ) (r s : Stepped) (after left : List ℕ) →
     StepSoundPromise entry r after → StepSoundPromise entry s left → (r ≡ s) × (after ≡ left)
 step-sound-settles entry r s after left p q = (one (p .0) (q .0), one (p .1 .words-are) (q .1 .words-are))

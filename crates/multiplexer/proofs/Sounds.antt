@@ -1,14 +1,12 @@
 -- Sound words: what they give, and what a change that leaves a sound box leaves of them.
 use Prim.Native.Nat.{ℕ, _≤_}
 use mathlib.Core.Path.{_≡_, refl, sym, ap, _∙_}
-use mathlib.Core.Bool.{Bool, true, false, _&&_, and-eq-true-iff}
+use mathlib.Core.Bool.{true, false}
 use mathlib.Core.List.{List}
-use lib.ListN.{length}
 use Rattle.meaning.specs.Numbers.{lastSlot}
 use Rattle.meaning.specs.Box.{Box, sound}
 use Rattle.meaning.proofs.Facts.{SoundFacts, sound-facts}
-use Rattle.words.specs.Places.{word}
-use Rattle.words.specs.Contents.{contents, put}
+use Rattle.words.specs.Contents.{contents}
 use Rattle.words.specs.Sound.{Fitting, soundWords}
 use Rattle.words.specs.Changes.{Become}
 use Rattle.words.proofs.PutContents.{put-contents}
@@ -21,6 +19,7 @@ use Rattle.multiplexer.specs.Promised.{Leaves, wordsAfter}
 pub facts : (ws : List ℕ) → soundWords ws ≡ true → SoundFacts (contents ws)
 facts ws h = sound-facts (contents ws) (sound-contents ws h)
 
+-- The counter of sound words is at most 4,000,000,000.
 pub counter-most : (ws : List ℕ) → soundWords ws ≡ true → contents ws .counter ≤ lastSlot
 counter-most ws h = facts ws h .counter-most
 
@@ -39,6 +38,7 @@ pub promised : (ws after : List ℕ) (box : Box) → soundWords ws ≡ true → 
 unfolding wordsAfter
 promised ws after box h l = rw h (l .words-are)
 
+-- Words that are not sound are left as they are.
 pub unchanged : (ws : List ℕ) (box : Box) → soundWords ws ≡ false → ws ≡ wordsAfter ws box
 unfolding wordsAfter
 unchanged ws box h = rw h refl

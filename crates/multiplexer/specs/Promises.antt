@@ -31,11 +31,13 @@ AdmitSoundPromise entry c r exit =
     (r ≡ admissionAnswer (contents entry) c) ×
     Leaves entry exit (afterAdmission (contents entry) c (admissionAnswer (contents entry) c))
 
+-- What `offer_sound` promises on words that are known to be sound.
 abbrev pub OfferSoundPromise : List ℕ → ℕ → ℕ → Offered → List ℕ → Type 0
 OfferSoundPromise entry n units r exit =
     (r ≡ offerAnswer (contents entry) n units) ×
     Leaves entry exit (afterOffer (contents entry) n units (offerAnswer (contents entry) n units))
 
+-- What `step_sound` promises on words that are known to be sound.
 abbrev pub StepSoundPromise : List ℕ → Stepped → List ℕ → Type 0
 StepSoundPromise entry r exit =
     (r ≡ stepAnswer (contents entry)) × Leaves entry exit (afterStep (contents entry) (stepAnswer (contents entry)))

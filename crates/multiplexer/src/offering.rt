@@ -19,20 +19,18 @@ use words::numbers::is_within;
 use words::numbers::wide;
 ghost use mathlib.Core.Path.{_≡_};
 ghost use mathlib.Core.Bool.{true};
-ghost use Prim.Native.Nat.{suc, _+_, _≤_};
-ghost use Rattle.meaning.specs.Numbers.{factor, largestFactor};
+ghost use Prim.Native.Nat.{_≤_};
 ghost use Rattle.meaning.specs.Envelope.{conforms};
 ghost use Rattle.words.specs.Places.{word, classesAt};
 ghost use Rattle.words.specs.Contents.{contents};
 ghost use Rattle.words.specs.Sound.{soundWords};
-ghost use Rattle.words.specs.Changes.{Become};
-ghost use Rattle.multiplexer.specs.Promised.{RowReady, Acceptable, acceptedBox};
+ghost use Rattle.multiplexer.specs.Promised.{TagOf, RowReady, Acceptable, Accepts};
 ghost use Rattle.multiplexer.specs.Promises.{OfferPromise, OfferSoundPromise};
 
 // The factor of a connection's class: the tag of the queue that its packets join.
 fn tag_of(ws: &[u32], class: u32) -> usize
     requires { ⌜ (soundWords (now ws) ≡ true) × ((1 ≤ class) × (class ≤ word (now ws) classesAt)) ⌝ }
-    ensures { λ r. ⌜ (r ≡ factor (contents (now (ws .entry)) .settings) class) × (r ≤ largestFactor (contents (now (ws .entry)) .settings)) ⌝ }
+    ensures { λ r. ⌜ TagOf (contents (now (ws .entry))) class r ⌝ }
 {
     wide(class_factor(ws, class))
 }
@@ -40,7 +38,7 @@ fn tag_of(ws: &[u32], class: u32) -> usize
 // The packet is accepted: its connection is charged once, it joins the tail of its queue, and it is counted.
 fn accept(ws: &mut [u32], n: u32, units: u32, row: Standing) -> u32
     requires { ⌜ Acceptable (now ws) n units row ⌝ }
-    ensures { λ r. ⌜ (r ≡ suc (contents (now (ws .entry)) .accepted)) × Become (now (ws .entry)) (now (ws .exit)) (acceptedBox (contents (now (ws .entry))) n units) ⌝ }
+    ensures { λ r. ⌜ Accepts (now (ws .entry)) n units r (now (ws .exit)) ⌝ }
 {
     let slot = counter(ws);
     let serial = accepted(ws) + 1;

@@ -11,15 +11,13 @@ use tables::link::read_link;
 use tables::link::write_link;
 use tables::settings::interval;
 ghost use mathlib.Core.Path.{_≡_};
-ghost use mathlib.Core.Bool.{true, false, _&&_};
-ghost use Prim.Native.Nat.{suc, _<_, _≤_};
+ghost use mathlib.Core.Bool.{true};
+ghost use Prim.Native.Nat.{_≤_};
 ghost use Rattle.meaning.specs.Numbers.{lastSlot};
-ghost use Rattle.meaning.specs.Queues.{tagZeroWaits};
-ghost use Rattle.meaning.specs.Step.{queuesTaken, turnDue, sentAnswer, linkTaken, moved};
+ghost use Rattle.meaning.specs.Step.{turnDue};
 ghost use Rattle.words.specs.Contents.{contents};
 ghost use Rattle.words.specs.Sound.{Fitting, soundWords};
-ghost use Rattle.words.specs.Changes.{Become};
-ghost use Rattle.multiplexer.specs.Promised.{sentBox};
+ghost use Rattle.multiplexer.specs.Promised.{turnBlocked, Movable, Moves, SendsUnit};
 ghost use Rattle.multiplexer.specs.Promises.{StepPromise, StepSoundPromise};
 
 // Whether the queues turn at the slot to which the counter is raised.
@@ -42,7 +40,7 @@ fn counter_of(ws: &[u32]) -> u32
 // The step would turn the queues while tag 0 still has a waiting packet, once the step has taken one.
 fn blocked(ws: &[u32]) -> bool
     requires { ⌜ soundWords (now ws) ≡ true ⌝ }
-    ensures { λ r. ⌜ r ≡ (turnDue (contents (now (ws .entry))) && tagZeroWaits (queuesTaken (contents (now (ws .entry)) .link) (contents (now (ws .entry)) .queues))) ⌝ }
+    ensures { λ r. ⌜ r ≡ turnBlocked (contents (now (ws .entry))) ⌝ }
 {
     if !turn_due(ws) {
         return false;
@@ -53,7 +51,7 @@ fn blocked(ws: &[u32]) -> bool
 // A unit of the packet on the link is sent: the answer, with the departure at the slot given.
 fn send_unit(ws: &mut [u32], departure: u32) -> Stepped
     requires { ⌜ Fitting (now ws) ⌝ }
-    ensures { λ r. ⌜ (r ≡ sentAnswer departure (contents (now (ws .entry)) .link)) × Become (now (ws .entry)) (now (ws .exit)) (sentBox (contents (now (ws .entry)))) ⌝ }
+    ensures { λ r. ⌜ SendsUnit (now (ws .entry)) departure r (now (ws .exit)) ⌝ }
 {
     let link = read_link(ws);
     let left = link.left;
@@ -87,8 +85,8 @@ fn send_unit(ws: &mut [u32], departure: u32) -> Stepped
 
 // The step of a sound box that is neither at its end nor blocked: take, send, raise the counter, turn if due.
 fn move_on(ws: &mut [u32]) -> Stepped
-    requires { ⌜ (soundWords (now ws) ≡ true) × ((contents (now ws) .counter < lastSlot) × ((turnDue (contents (now ws)) && tagZeroWaits (queuesTaken (contents (now ws) .link) (contents (now ws) .queues))) ≡ false)) ⌝ }
-    ensures { λ r. ⌜ (r ≡ sentAnswer (suc (contents (now (ws .entry)) .counter)) (linkTaken (contents (now (ws .entry)) .link) (contents (now (ws .entry)) .queues))) × Become (now (ws .entry)) (now (ws .exit)) (moved (contents (now (ws .entry)))) ⌝ }
+    requires { ⌜ Movable (now ws) ⌝ }
+    ensures { λ r. ⌜ Moves (now (ws .entry)) r (now (ws .exit)) ⌝ }
 {
     let departure = counter_of(ws) + 1;
     load_link(ws);

@@ -41,7 +41,8 @@ module _ (bytes : List ℕ) where
     answer-15 e = rw (a, b, ← header, e)
 
     -- Where the layout is right too, slots that are wrong are answered last.
-    pub answer-16 : layoutWrong (length bytes) h ≡ false → slotsWrongIn bytes h ≡ true → (PlanRead.Refused Refusal.WrongSlots) ≡ readingAnswer bytes
+    pub answer-16 : layoutWrong (length bytes) h ≡ false → slotsWrongIn bytes h ≡ true
+        → (PlanRead.Refused Refusal.WrongSlots) ≡ readingAnswer bytes
     unfolding readingAnswer slotsWrongIn
     answer-16 e f = rw (a, b, ← header, e, f)
 

@@ -40,7 +40,8 @@ read-facts bytes h good =
     let k = headerOf (wordsOf bytes) in
     ⊎-elim (λ c. other (PlanRead.Refused Refusal.WrongLayout) refl (answer-15 bytes k refl a b c))
     (λ c.
-    ⊎-elim (λ d. other (PlanRead.Refused Refusal.WrongSlots) refl (answer-16 bytes k refl a b c d)) (λ d. found a b c d) (bool-cases (slotsWrongIn bytes k)))
+    ⊎-elim (λ d. other (PlanRead.Refused Refusal.WrongSlots) refl (answer-16 bytes k refl a b c d)) (λ d. found a b c d)
+    (bool-cases (slotsWrongIn bytes k)))
     (bool-cases (layoutWrong (length bytes) k)))
     (bool-cases (sumWrong (wordsOf bytes))))
     (bool-cases (sizeWrong bytes))

@@ -54,7 +54,8 @@ only-0 false false false false e = (refl, refl, refl, refl)
 -- The answer of reading, by its four tests in their order.
 abbrev readingBy : Bool → Bool → Bool → Bool → Header → PlanRead
 readingBy a b c d h =
-    cond a (PlanRead.Refused Refusal.WrongSize) (cond b (PlanRead.Refused Refusal.WrongSum) (cond c (PlanRead.Refused Refusal.WrongLayout) (cond d (PlanRead.Refused Refusal.WrongSlots) (PlanRead.Good h))))
+    cond a (PlanRead.Refused Refusal.WrongSize) (cond b (PlanRead.Refused Refusal.WrongSum)
+    (cond c (PlanRead.Refused Refusal.WrongLayout) (cond d (PlanRead.Refused Refusal.WrongSlots) (PlanRead.Good h))))
 
 -- The number of an answer of reading is that of the first test that refuses.
 read-number :

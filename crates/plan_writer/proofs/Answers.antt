@@ -24,14 +24,16 @@ module _ (l : Lent) (buf : List ℕ) where
   module _ (a : lentWrong l ≡ false) where
     -- Where the tables are right, slots that are wrong are answered next, and the buffer stays as it is.
     pub answer-16 :
-        slotsWrong (lentPlan l .arrivals) ≡ true → ((PlanWritten.Refused Refusal.WrongSlots) ≡ writingAnswer l (length buf)) × (buf ≡ bytesAfter l buf)
+        slotsWrong (lentPlan l .arrivals) ≡ true → ((PlanWritten.Refused Refusal.WrongSlots) ≡ writingAnswer l (length buf))
+        × (buf ≡ bytesAfter l buf)
     unfolding writingAnswer bytesAfter bytesBy
     answer-16 b = (rw (a, b), rw (a, b))
 
     module _ (b : slotsWrong (lentPlan l .arrivals) ≡ false) where
       -- Where the slots are right too, a buffer that is too short is answered last, and stays as it is.
       pub answer-17 :
-          length buf < sizeOf (lentPlan l) → ((PlanWritten.Refused Refusal.TooShort) ≡ writingAnswer l (length buf)) × (buf ≡ bytesAfter l buf)
+          length buf < sizeOf (lentPlan l) → ((PlanWritten.Refused Refusal.TooShort) ≡ writingAnswer l (length buf))
+          × (buf ≡ bytesAfter l buf)
       unfolding writingAnswer bytesAfter bytesBy
       answer-17 c = let t = lt-ltb _ _ c in (rw (a, b, t), rw (a, b, t))
 

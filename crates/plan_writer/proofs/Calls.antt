@@ -45,7 +45,8 @@ pub write-facts : (l : Lent) (buf : List ℕ) (size : ℕ) → writingAnswer l (
 write-facts l buf size done =
     ⊎-elim (λ a. other (PlanWritten.Refused Refusal.WrongLayout) refl (answer-15 l buf a .0))
     (λ a.
-    ⊎-elim (λ b. other (PlanWritten.Refused Refusal.WrongSlots) refl (answer-16 l buf a b .0)) (λ b. room a b (decLe (sizeOf (lentPlan l)) (length buf)))
+    ⊎-elim (λ b. other (PlanWritten.Refused Refusal.WrongSlots) refl (answer-16 l buf a b .0))
+    (λ b. room a b (decLe (sizeOf (lentPlan l)) (length buf)))
     (bool-cases (slotsWrong (lentPlan l .arrivals))))
     (bool-cases (lentWrong l))
   where

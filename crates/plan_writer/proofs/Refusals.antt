@@ -12,7 +12,8 @@ use Rattle.plan_writer.specs.FirstRefusal.{writingOf, writingNumber}
 
 -- The answer of writing, by its three tests in their order.
 abbrev writingBy : Bool → Bool → Bool → ℕ → PlanWritten
-writingBy a b c n = cond a (PlanWritten.Refused Refusal.WrongLayout) (cond b (PlanWritten.Refused Refusal.WrongSlots) (cond c (PlanWritten.Refused Refusal.TooShort) (PlanWritten.Written n)))
+writingBy a b c n = cond a (PlanWritten.Refused Refusal.WrongLayout)
+    (cond b (PlanWritten.Refused Refusal.WrongSlots) (cond c (PlanWritten.Refused Refusal.TooShort) (PlanWritten.Written n)))
 
 -- The number of an answer of writing is that of the first test that refuses.
 written-number :

@@ -25,17 +25,20 @@ unfolding every placedFrom leading
 all-before limit n [] h = refl
 all-before limit n (a ∷ l) h = by (ltb (a .slot) limit) h (all-before limit (suc n) l)
   where
-    by : (b : Bool) → suc (length l) ≤ cond b (suc (leading limit l)) 0 → (length l ≤ leading limit l → every (before limit) (placedFrom (suc n) l) ≡ true)
+    by : (b : Bool) → suc (length l) ≤ cond b (suc (leading limit l)) 0
+        → (length l ≤ leading limit l → every (before limit) (placedFrom (suc n) l) ≡ true)
         → (b && every (before limit) (placedFrom (suc n) l)) ≡ true
     by true k ih = ih (omega arith)
     by false k ih = absurd (let z = k in omega arith)
 
+-- If the arrivals that lead before a limit are not all of them, some arrival is not before it.
 pub one-not-before : (limit n : ℕ) (l : List Arrival) → leading limit l < length l → every (before limit) (placedFrom n l) ≡ false
 unfolding every placedFrom leading
 one-not-before limit n [] h = absurd (let z = h in omega arith)
 one-not-before limit n (a ∷ l) h = by (ltb (a .slot) limit) h (one-not-before limit (suc n) l)
   where
-    by : (b : Bool) → cond b (suc (leading limit l)) 0 < suc (length l) → (leading limit l < length l → every (before limit) (placedFrom (suc n) l) ≡ false)
+    by : (b : Bool) → cond b (suc (leading limit l)) 0 < suc (length l)
+        → (leading limit l < length l → every (before limit) (placedFrom (suc n) l) ≡ false)
         → (b && every (before limit) (placedFrom (suc n) l)) ≡ false
     by true k ih = ih (omega arith)
     by false k ih = refl
@@ -48,7 +51,7 @@ none-leads limit low (a ∷ l) h e =
     let k = leb-true low (a .slot) (and-eq-true-iff (leb low (a .slot)) (neverFallingFrom (a .slot) l) .0 e .0) in
     rw (le-ltb (a .slot) limit (omega arith)) refl
 
--- and those of an earlier slot are none
+-- Where the slots never fall from `low` on, an earlier slot has no arrivals.
 none-of : (slot low : ℕ) (l : List Arrival) → slot < low → neverFallingFrom low l ≡ true → arrivalsOf slot l ≡ []
 none-of slot low l h e =
     let z = none-leads slot low l (omega arith) e in
@@ -66,8 +69,10 @@ placed-due slot low n (a ∷ l) e = by (placed-due slot (a .slot) (suc n) l) (de
     rest : neverFallingFrom (a .slot) l ≡ true
     rest = and-eq-true-iff (leb low (a .slot)) (neverFallingFrom (a .slot) l) .0 e .1
 
-    by : (neverFallingFrom (a .slot) l ≡ true → keep (λ a. eqb (a .entry .slot) slot) (placedFrom (suc n) l) ≡ placedFrom (suc n + leading slot l) (arrivalsOf slot l))
-        → Dec (a .slot < slot) → Dec (slot < a .slot) → keep (λ a. eqb (a .entry .slot) slot) (placedFrom n (a ∷ l)) ≡ placedFrom (n + leading slot (a ∷ l)) (arrivalsOf slot (a ∷ l))
+    by : (neverFallingFrom (a .slot) l ≡ true → keep (λ a. eqb (a .entry .slot) slot) (placedFrom (suc n) l) ≡
+        placedFrom (suc n + leading slot l) (arrivalsOf slot l))
+        → Dec (a .slot < slot) → Dec (slot < a .slot)
+        → keep (λ a. eqb (a .entry .slot) slot) (placedFrom n (a ∷ l)) ≡ placedFrom (n + leading slot (a ∷ l)) (arrivalsOf slot (a ∷ l))
     by later (yes h) d =
         let k : suc n + leading slot l ≡ n + suc (leading slot l) = omega arith in
         rw (ne-eqb (a .slot) slot (λ q. omega arith), lt-ltb (a .slot) slot h) (later rest ∙ ap (λ m. placedFrom m (arrivalsOf slot l)) k)
@@ -81,4 +86,5 @@ placed-due slot low n (a ∷ l) e = by (placed-due slot (a .slot) (suc n) l) (de
         ap (λ x. record { place = n + 0; entry = a } ∷ x) (later rest ∙ ap (λ x. placedFrom x (arrivalsOf slot l)) k))
     by later (no h) (yes q) =
         let none = none-of slot (a .slot) l (omega arith) rest in
-        rw (ne-eqb (a .slot) slot (λ e. omega arith), le-ltb (a .slot) slot (omega arith)) (later rest ∙ ap (placedFrom (suc n + leading slot l)) none ∙ sym (ap (placedFrom (n + 0)) none))
+        rw (ne-eqb (a .slot) slot (λ e. omega arith), le-ltb (a .slot) slot (omega arith))
+        (later rest ∙ ap (placedFrom (suc n + leading slot l)) none ∙ sym (ap (placedFrom (n + 0)) none))

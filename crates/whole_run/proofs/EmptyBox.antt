@@ -25,18 +25,21 @@ none-lowest [] e = refl
 none-lowest ([] ∷ qs) e = none-lowest qs e
 none-lowest ((p ∷ q) ∷ qs) e = absurd (let z = e in omega arith)
 
+-- Where nothing waits, nothing waits in tag 0.
 none-zero : (qs : List (List Packet)) → length (flatten qs) ≡ 0 → tagZeroWaits qs ≡ false
 unfolding flatten tagZeroWaits
 none-zero [] e = refl
 none-zero ([] ∷ qs) e = refl
 none-zero ((p ∷ q) ∷ qs) e = absurd (let z = e in omega arith)
 
+-- Where nothing waits, an empty queue at the end is one at the front.
 none-last : (qs : List (List Packet)) → length (flatten qs) ≡ 0 → qs ++ ([] ∷ []) ≡ [] ∷ qs
 unfolding flatten
 none-last [] e = refl
 none-last ([] ∷ qs) e = ap (λ (l : List (List Packet)). [] ∷ l) (none-last qs e)
 none-last ((p ∷ q) ∷ qs) e = absurd (let z = e in omega arith)
 
+-- Where nothing waits, turning the queues changes nothing.
 none-turned : (qs : List (List Packet)) → length (flatten qs) ≡ 0 → turned qs ≡ qs
 unfolding flatten turned
 none-turned [] e = refl
@@ -48,35 +51,42 @@ pub record Empty (box : Box) : Type 0 where
   pub link-free : box .link ≡ free
   pub none-wait : length (flatten (box .queues)) ≡ 0
 
+-- A link with no packet on it is free.
 no-packet : (l : Link) → length (onLink l) ≡ 0 → l ≡ free
 unfolding onLink
 no-packet free e = refl
 no-packet (carries p left) e = absurd (let z = e in omega arith)
 
+-- A box with no packet is empty.
 pub empty-box : (box : Box) → length (packets box) ≡ 0 → Empty box
 unfolding packets waiting
 empty-box box e =
     let n = length-append (flatten (box .queues)) (onLink (box .link)) in
     record { link-free = no-packet (box .link) (omega (arith, n, e)); none-wait = omega (arith, n, e) }
 
+-- Nothing waits in it.
 pub none-waiting : (box : Box) → eqb (length (packets box)) 0 ≡ true → length (waiting box) ≡ 0
 unfolding waiting
 none-waiting box e = empty-box box (eqb-true _ _ e) .none-wait
 
+-- It is empty at any slot.
 pub empty-later : (box : Box) (n : ℕ) → Empty box → Empty (withCounter box n)
 unfolding withCounter
 empty-later box n e = record { link-free = e .link-free; none-wait = e .none-wait }
 
 module _ (box : Box) (e : Empty box) where
+  -- Its step takes nothing.
   link-stays : linkTaken (box .link) (box .queues) ≡ free
   unfolding linkTaken loaded
   link-stays = ap (λ l. linkTaken l (box .queues)) (e .link-free) ∙ ap loaded (none-lowest (box .queues) (e .none-wait))
 
+  -- Its queues stay when it takes nothing.
   queues-stay : queuesTaken (box .link) (box .queues) ≡ box .queues
   unfolding queuesTaken
   queues-stay =
       ap (λ l. queuesTaken l (box .queues)) (e .link-free) ∙ nothing-taken (box .queues) (none-lowest (box .queues) (e .none-wait))
 
+  -- Its turn is not blocked.
   not-blocked : (turnDue box && tagZeroWaits (queuesTaken (box .link) (box .queues))) ≡ false
   not-blocked = ap (λ b. turnDue box && b) (ap tagZeroWaits queues-stay ∙ none-zero (box .queues) (e .none-wait)) ∙ go (turnDue box)
     where
@@ -84,6 +94,7 @@ module _ (box : Box) (e : Empty box) where
       go true = refl
       go false = refl
 
+  -- Its queues stay when they are turned.
   stepped-stay : queuesStepped box ≡ box .queues
   unfolding queuesStepped
   stepped-stay =
@@ -93,18 +104,27 @@ module _ (box : Box) (e : Empty box) where
       go true = none-turned (box .queues) (e .none-wait)
       go false = refl
 
-  -- the box after the step is the box with the next counter
+  -- The empty box after a step is the box with the next counter.
   pub idle-moves : moved box ≡ withCounter box (suc (box .counter))
   unfolding moved withCounter linkSent
   idle-moves =
-      ap₂ (λ l qs. record { settings = box .settings; standing = box .standing; counter = suc (box .counter); accepted = box .accepted; link = l; queues = qs })
+      ap₂ (λ l qs. record {
+        settings = box .settings;
+        standing = box .standing;
+        counter = suc (box .counter);
+        accepted = box .accepted;
+        link = l;
+        queues = qs;
+      })
       (ap linkSent link-stays ∙ sym (e .link-free)) stepped-stay
 
   module _ (s : sound box ≡ true) (below : box .counter < lastSlot) where
+    -- Its step is idle.
     pub idle-answer : stepAnswer box ≡ Stepped.Idle
     unfolding stepAnswer sentAnswer
     idle-answer = rw (s, lt-leb lastSlot (box .counter) below, not-blocked, link-stays) refl
 
+    -- It is sound at the next slot.
     pub idle-sound : sound (withCounter box (suc (box .counter))) ≡ true
     unfolding afterStep
     idle-sound = ap sound (sym (ap (afterStep box) idle-answer ∙ idle-moves)) ∙ step-keeps-sound box s

@@ -9,7 +9,8 @@ use Rattle.meaning.specs.Plan.{wordsOf, factorAt, table}
 use Rattle.plan.specs.Entries.{length-table, getD-table, take-table}
 
 -- One factor more.
-pub factor-on : (bytes factors : List ℕ) (i f : ℕ) → i < length factors → f ≡ factorAt (wordsOf bytes) i → take i factors ≡ table factorAt 1 (wordsOf bytes) 0 i
+pub factor-on : (bytes factors : List ℕ) (i f : ℕ) → i < length factors → f ≡ factorAt (wordsOf bytes) i
+    → take i factors ≡ table factorAt 1 (wordsOf bytes) 0 i
     → take (i + 1) (set factors i f) ≡ table factorAt 1 (wordsOf bytes) 0 (i + 1)
 factor-on bytes factors i f h e t =
     let ws = wordsOf bytes in
@@ -17,14 +18,16 @@ factor-on bytes factors i f h e t =
     let z : 0 + 1 * i ≡ i = omega arith in
     let l = length-table factorAt 1 ws 0 (suc i) in
     let all = table factorAt 1 ws 0 (suc i) in
-    let end : table factorAt 1 ws 0 (suc i) ≡ take i all ++ (getD all i 0 ∷ []) = sym (take-all (suc i) all (omega (arith, l))) ∙ take-suc all i 0 (omega (arith, l)) in
+    let end : table factorAt 1 ws 0 (suc i) ≡ take i all ++ (getD all i 0 ∷ []) =
+    sym (take-all (suc i) all (omega (arith, l))) ∙ take-suc all i 0 (omega (arith, l)) in
     let last : getD all i 0 ≡ f = getD-table factorAt 1 ws 0 (suc i) i 0 (omega arith) ∙ ap (factorAt ws) z ∙ sym e in
     subst (λ k. take k (set factors i f) ≡ table factorAt 1 ws 0 k) (sym s)
     (take-suc-set factors i f h ∙ ap (λ m. m ++ (f ∷ [])) (t ∙ sym (take-table factorAt 1 ws 0 (suc i) i (omega arith))) ∙
     sym (end ∙ ap (λ x. take i all ++ (x ∷ [])) last))
 
 -- All of them.
-pub factors-end : (bytes factors before : List ℕ) (i : ℕ) → i ≡ length factors → length factors ≡ length before → take i factors ≡ table factorAt 1 (wordsOf bytes) 0 i
+pub factors-end : (bytes factors before : List ℕ) (i : ℕ) → i ≡ length factors → length factors ≡ length before
+    → take i factors ≡ table factorAt 1 (wordsOf bytes) 0 i
     → factors ≡ table factorAt 1 (wordsOf bytes) 0 (length before)
 factors-end bytes factors before i e l t =
     sym (take-all i factors (omega arith)) ∙ t ∙ ap (table factorAt 1 (wordsOf bytes) 0) (e ∙ l)

@@ -34,39 +34,52 @@ pub record Offering (numbers due : List ℕ) (from : ℕ) (box : Box) (i : ℕ) 
   pub still-sound : soundWords ws ≡ true
   pub box-same : restOffered numbers due from i (contents ws) .box ≡ offersOf numbers due from box .box
   pub reached :
-      Reached before out start (textOf (offersOf numbers due from box .lines)) (textOf (restOffered numbers due from i (contents ws) .lines)) at
+      Reached before out start (textOf (offersOf numbers due from box .lines))
+      (textOf (restOffered numbers due from i (contents ws) .lines)) at
 
-pub offer-start : (numbers due : List ℕ) (from : ℕ) (ws out : List ℕ) (start : ℕ) → soundWords ws ≡ true → Offering numbers due from (contents ws) 0 ws out out start start
+-- At the start none is done.
+pub offer-start : (numbers due : List ℕ) (from : ℕ) (ws out : List ℕ) (start : ℕ) → soundWords ws ≡ true
+    → Offering numbers due from (contents ws) 0 ws out out start start
 offer-start numbers due from ws out start e =
     let z : suc from ≡ suc from + 0 = omega arith in
     let same = ap (λ n. offerAll numbers (placedFrom n (arrivalsIn due)) (contents ws)) z in
     record {
       still-sound = e;
       box-same = sym (ap (λ r. r .box) same);
-      reached = reached-as _ (ap (λ r. textOf (r .lines)) same) (reached-start out start (textOf (offersOf numbers due from (contents ws) .lines)));
+      reached =
+          reached-as _ (ap (λ r. textOf (r .lines)) same)
+          (reached-start out start (textOf (offersOf numbers due from (contents ws) .lines)));
     }
 
 module _ (numbers due : List ℕ) (from i : ℕ) (a : Arrival) (is : a ≡ arrivalAt (wordsOf due) (3 * i)) (below : i < length due / 12) where
+  -- The arrival at place i stands first among those from there on.
   first : drop i (arrivalsIn due) ≡ a ∷ drop (suc i) (arrivalsIn due)
   unfolding arrivalsIn
   first =
       let l = length-arrivalsIn due in
       let z : 0 + 3 * i ≡ 3 * i = omega arith in
       drop-cons (arrivalsIn due) i a (omega (arith, l, below)) ∙
-      ap (λ x. x ∷ drop (suc i) (arrivalsIn due)) (getD-table arrivalAt 3 (wordsOf due) 0 (length due / 12) i a below ∙ ap (arrivalAt (wordsOf due)) z ∙ sym is)
+      ap (λ x. x ∷ drop (suc i) (arrivalsIn due))
+      (getD-table arrivalAt 3 (wordsOf due) 0 (length due / 12) i a below ∙ ap (arrivalAt (wordsOf due)) z ∙ sym is)
 
+  -- The answer of its offer.
   abbrev answerOn : Box → Offered
   answerOn box = offerAnswer box (numberOf numbers (a .place)) (a .units)
 
+  -- The box after that answer.
   abbrev afterOn : Box → Box
   afterOn box = afterOffer box (numberOf numbers (a .place)) (a .units) (answerOn box)
 
-  -- the offer of the i-th arrival comes first, and then the rest
+  -- The offer of the i-th arrival, and then the rest.
   abbrev opened : Box → AfterOffers
   opened box =
       let rest = restOffered numbers due from (suc i) (afterOn box) in
-      record { lines = offerLine (suc from + i) (offered (answerOn box) .number) (getD (offered (answerOn box) .fields) 0 0) ∷ rest .lines; box = rest .box }
+      record {
+        lines = offerLine (suc from + i) (offered (answerOn box) .number) (getD (offered (answerOn box) .fields) 0 0) ∷ rest .lines;
+        box = rest .box;
+      }
 
+  -- So it is.
   opens : (box : Box) → restOffered numbers due from i box ≡ opened box
   unfolding offerAll placedFrom
   opens box =
@@ -75,46 +88,60 @@ module _ (numbers due : List ℕ) (from i : ℕ) (a : Arrival) (is : a ≡ arriv
       ap
       (λ k.
       let rest = offerAll numbers (placedFrom k (drop (suc i) (arrivalsIn due))) (afterOn box) in
-      let whole : AfterOffers = record { lines = offerLine (suc from + i) (offered (answerOn box) .number) (getD (offered (answerOn box) .fields) 0 0) ∷ rest .lines; box = rest .box } in whole)
+      let whole : AfterOffers = record {
+        lines = offerLine (suc from + i) (offered (answerOn box) .number) (getD (offered (answerOn box) .fields) 0 0) ∷ rest .lines;
+        box = rest .box;
+      } in whole)
       n
 
-  module _ {box : Box} {ws before out : List ℕ} {start at : ℕ} (room : Room before start (textOf (offersOf numbers due from box .lines))) (o : Offering numbers due from box i ws before out start at) (place number serial : ℕ) (e : place ≡ suc from + i) (f : number ≡ offered (answerOn (contents ws)) .number) (g : serial ≡ getD (offered (answerOn (contents ws)) .fields) 0 0) where
-    abbrev after : Box
-    after = afterOn (contents ws)
+  module _ {box : Box} {ws before out : List ℕ} {start at : ℕ}
+      (room : Room before start (textOf (offersOf numbers due from box .lines)))
+      (o : Offering numbers due from box i ws before out start at) (place number serial : ℕ) (e : place ≡ suc from + i)
+      (f : number ≡ offered (answerOn (contents ws)) .number) (g : serial ≡ getD (offered (answerOn (contents ws)) .fields) 0 0)
+    where
+      -- The box after the offer, from the box in the words.
+      abbrev after : Box
+      after = afterOn (contents ws)
 
-    line-is : offerLine place number serial ≡ offerLine (suc from + i) (offered (answerOn (contents ws)) .number) (getD (offered (answerOn (contents ws)) .fields) 0 0)
-    line-is = rw (e, f, g) refl
+      -- Its line, from what the code prints.
+      line-is : offerLine place number serial ≡
+          offerLine (suc from + i) (offered (answerOn (contents ws)) .number) (getD (offered (answerOn (contents ws)) .fields) 0 0)
+      line-is = rw (e, f, g) refl
 
-    to-print :
-        Reached before out start (textOf (offersOf numbers due from box .lines))
-        (lineText (offerLine place number serial) ++ textOf (restOffered numbers due from (suc i) after .lines)) at
-    to-print =
-        reached-as _
-        (ap (λ r. textOf (r .lines)) (opens (contents ws)) ∙
-        text-cons _ (restOffered numbers due from (suc i) after .lines) ∙
-        ap (λ l. lineText l ++ textOf (restOffered numbers due from (suc i) after .lines)) (sym line-is))
-        (o .reached)
+      -- The line comes next.
+      to-print :
+          Reached before out start (textOf (offersOf numbers due from box .lines))
+          (lineText (offerLine place number serial) ++ textOf (restOffered numbers due from (suc i) after .lines)) at
+      to-print =
+          reached-as _
+          (ap (λ r. textOf (r .lines)) (opens (contents ws)) ∙
+          text-cons _ (restOffered numbers due from (suc i) after .lines) ∙
+          ap (λ l. lineText l ++ textOf (restOffered numbers due from (suc i) after .lines)) (sym line-is))
+          (o .reached)
 
-    -- there is room for its line
-    pub offer-room : Room out at (lineText (offerLine place number serial))
-    offer-room = reached-next (lineText (offerLine place number serial)) (textOf (restOffered numbers due from (suc i) after .lines)) room to-print
+      -- There is room for the offer's line.
+      pub offer-room : Room out at (lineText (offerLine place number serial))
+      offer-room =
+          reached-next (lineText (offerLine place number serial)) (textOf (restOffered numbers due from (suc i) after .lines)) room to-print
 
-    -- one more offer is done
-    pub offer-on :
-        {next : List ℕ} {last : ℕ} (left : List ℕ) → Leaves ws left after → Put out next at (lineText (offerLine place number serial)) last
-        → Offering numbers due from box (i + 1) left before next start last
-    offer-on {next} {last} left l p =
-        let s : suc i ≡ i + 1 = omega arith in
-        let same : restOffered numbers due from (suc i) (contents left) ≡ restOffered numbers due from (suc i) after =
-        ap (restOffered numbers due from (suc i)) (l .stand-for) in
-        subst (λ k. Offering numbers due from box k left before next start last) s
-        (record {
-          still-sound = l .still-sound;
-          box-same = ap (λ r. r .box) same ∙ sym (ap (λ r. r .box) (opens (contents ws))) ∙ o .box-same;
-          reached =
-              reached-as _ (sym (ap (λ r. textOf (r .lines)) same))
-              (reached-on (lineText (offerLine place number serial)) (textOf (restOffered numbers due from (suc i) after .lines)) room to-print p);
-        })
+      -- Once the offer's line is printed, one more offer is done.
+      pub offer-on :
+          {next : List ℕ} {last : ℕ} (left : List ℕ) → Leaves ws left after
+          → Put out next at (lineText (offerLine place number serial)) last
+          → Offering numbers due from box (i + 1) left before next start last
+      offer-on {next} {last} left l p =
+          let s : suc i ≡ i + 1 = omega arith in
+          let same : restOffered numbers due from (suc i) (contents left) ≡ restOffered numbers due from (suc i) after =
+          ap (restOffered numbers due from (suc i)) (l .stand-for) in
+          subst (λ k. Offering numbers due from box k left before next start last) s
+          (record {
+            still-sound = l .still-sound;
+            box-same = ap (λ r. r .box) same ∙ sym (ap (λ r. r .box) (opens (contents ws))) ∙ o .box-same;
+            reached =
+                reached-as _ (sym (ap (λ r. textOf (r .lines)) same))
+                (reached-on (lineText (offerLine place number serial)) (textOf (restOffered numbers due from (suc i) after .lines)) room
+                to-print p);
+          })
 
 -- All offers are done.
 pub offer-end :

@@ -9,7 +9,9 @@ use Rattle.meaning.specs.declared.Printed.{Printed}
 use Rattle.whole_run.specs.Printing.{RunPromise}
 use Rattle.whole_run.specs.Rooms.{Zeros}
 
-pub run-plan-settles : (plan entry : List ℕ) (r s : Printed) (after left : List ℕ) → RunPromise plan entry r after → RunPromise plan entry s left → (r ≡ s) × (after ≡ left)
+-- Two results of `run_plan` that keep its promise are the same, and so are the buffers they leave.
+pub run-plan-settles : (plan entry : List ℕ) (r s : Printed) (after left : List ℕ) → RunPromise plan entry r after
+    → RunPromise plan entry s left → (r ≡ s) × (after ≡ left)
 run-plan-settles plan entry r s after left p q = (one (p .0) (q .0), one (p .1) (q .1))
 
 -- `plan_room`, `text_room` and `box_room`.

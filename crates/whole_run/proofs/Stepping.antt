@@ -19,7 +19,8 @@ use Rattle.lines.specs.Put.{Put}
 use Rattle.lines.proofs.Reached.{put-none, text-one, text-none}
 
 -- The line of a departure.
-pub departed-line : (numbers : List ℕ) (answer : Stepped) (serial connection arrival departure place : ℕ) → answer ≡ Stepped.Departed serial connection arrival departure
+pub departed-line : (numbers : List ℕ) (answer : Stepped) (serial connection arrival departure place : ℕ)
+    → answer ≡ Stepped.Departed serial connection arrival departure
     → place ≡ placeOf 1 numbers connection → textOf (departures numbers answer) ≡ lineText (departLine serial place arrival departure)
 unfolding departures
 departed-line numbers answer serial connection arrival departure place e p =
@@ -27,7 +28,8 @@ departed-line numbers answer serial connection arrival departure place e p =
     ap (λ q. lineText (departLine serial q arrival departure)) (sym p)
 
 -- No line.
-pub no-line : (numbers : List ℕ) (answer : Stepped) (out : List ℕ) (at : ℕ) → departures numbers answer ≡ [] → Put out out at (textOf (departures numbers answer)) at
+pub no-line : (numbers : List ℕ) (answer : Stepped) (out : List ℕ) (at : ℕ) → departures numbers answer ≡ []
+    → Put out out at (textOf (departures numbers answer)) at
 no-line numbers answer out at e = subst (λ l. Put out out at l at) (sym (ap textOf e ∙ text-none)) (put-none out at)
 
 -- One departure or none, whatever the numbers.
@@ -38,6 +40,7 @@ departed-same numbers (Stepped.Sending serial left) = refl
 departed-same numbers (Stepped.Departed serial connection arrival departure) = refl
 departed-same numbers (Stepped.Refused why) = refl
 
+-- A step prints at most one line.
 pub departed-most : (numbers : List ℕ) (answer : Stepped) → length (departures numbers answer) ≤ 1
 unfolding departures
 departed-most numbers Stepped.Idle = omega arith
@@ -46,18 +49,20 @@ departed-most numbers (Stepped.Departed serial connection arrival departure) = o
 departed-most numbers (Stepped.Refused why) = omega arith
 
 module _ (l : List (Placed Arrival)) (numbers : List ℕ) (box : Box) (departed : ℕ) where
+  -- Adding 0 to the count of departed packets leaves the rest of the run.
   same-departed : restOf l numbers (moved box) departed ≡ restOf l numbers (moved box) (departed + 0)
   same-departed = let e : departed ≡ departed + 0 = omega arith in ap (restOf l numbers (moved box)) e
 
-  -- after a refused step only its line is left
-  pub after-stop : (answer : Stepped) → stepped answer .number ≢ 0 → afterAnswer l numbers box departed answer ≡ stopLine (stepped answer .number) ∷ []
+  -- After a refused step only its STOP line is left.
+  pub after-stop : (answer : Stepped) → stepped answer .number ≢ 0
+      → afterAnswer l numbers box departed answer ≡ stopLine (stepped answer .number) ∷ []
   unfolding stepped refusal afterAnswer
   after-stop Stepped.Idle h = absurd (h refl)
   after-stop (Stepped.Sending serial left) h = absurd (h refl)
   after-stop (Stepped.Departed serial connection arrival departure) h = absurd (h refl)
   after-stop (Stepped.Refused why) h = refl
 
-  -- after any other step the run goes on from the box after it
+  -- After any other step the run goes on from the box after it.
   pub after-on : (answer : Stepped) → stepped answer .number ≡ 0
       → afterAnswer l numbers box departed answer ≡ restOf l numbers (afterStep box answer) (departed + length (departures numbers answer))
   unfolding stepped refusal afterAnswer afterStep departures
@@ -66,7 +71,7 @@ module _ (l : List (Placed Arrival)) (numbers : List ℕ) (box : Box) (departed 
   after-on (Stepped.Departed serial connection arrival departure) h = refl
   after-on (Stepped.Refused why) h = absurd (let r = refusal-range why .0 in omega (arith, h, r))
 
--- and that box has moved.
+-- After a step that is not refused the box has moved.
 pub after-moved : (box : Box) (answer : Stepped) → stepped answer .number ≡ 0 → afterStep box answer ≡ moved box
 unfolding stepped refusal afterStep
 after-moved box Stepped.Idle h = refl

@@ -66,6 +66,7 @@ Walked bytes box passed = passed ≡ leading (box .counter) (arrivalsIn bytes)
 abbrev pub offersNow : List ℕ → List ℕ → Box → AfterOffers
 offersNow numbers bytes box = offerAll numbers (dueNow (arrivalsPlaced bytes) box) box
 
+-- The answer of the step of the slot to which the counter points.
 abbrev pub answerNow : List ℕ → List ℕ → Box → Stepped
 answerNow numbers bytes box = stepAnswer (offersNow numbers bytes box .box)
 
@@ -91,7 +92,8 @@ pub record PassesIdle (bytes : List ℕ) (passed : ℕ) (box : Box) (ws : List �
   pub still-sound : soundWords ws ≡ true
   pub walked : Walked bytes (contents ws) passed
   pub later : box .counter ≤ contents ws .counter
-  pub same-rest : (numbers : List ℕ) (departed : ℕ) → restOf (arrivalsPlaced bytes) numbers box departed ≡ restOf (arrivalsPlaced bytes) numbers (contents ws) departed
+  pub same-rest : (numbers : List ℕ) (departed : ℕ)
+      → restOf (arrivalsPlaced bytes) numbers box departed ≡ restOf (arrivalsPlaced bytes) numbers (contents ws) departed
   pub no-more : potential (arrivalsPlaced bytes) (contents ws) ≤ potential (arrivalsPlaced bytes) box
 
 -- The rest of the run from this box on, with nothing departed before.

@@ -1,4 +1,5 @@
--- Printing a run into a lent buffer. Document 01 gives no number for a buffer that is too short for the lines; 17 is its number for one that
+-- Printing a run into a lent buffer. Document 01 gives no number for a buffer that is too short for the lines; 17 is its number for one
+-- that
 -- is too short for a box or a plan.
 use Prim.Native.Nat.{ℕ}
 use mathlib.Core.Path.{_≡_}

@@ -17,7 +17,8 @@ ghost use Rattle.meaning.specs.Lines.{textOf};
 pub fn admit_all(ws: &mut [u32], table: &[u8], numbers: &mut [u32], out: &mut [u8]) -> usize
     requires { ⌜ (soundWords (now ws) ≡ true) × (length (now table) / 16 ≤ length (now numbers)) × (length (now numbers) ≤ 32) ⌝ }
     requires { ⌜ Room (now out) 0 (textOf (admissionsOf (now table) (contents (now ws)) .lines)) ⌝ }
-    ensures { λ r. ⌜ Admits (admissionsOf (now (table .entry)) (contents (now (ws .entry)))) (length (now (table .entry)) / 16) (now (ws .exit)) (now (numbers .exit)) (now (out .entry)) (now (out .exit)) r ⌝ }
+    ensures { λ r. ⌜ Admits (admissionsOf (now (table .entry)) (contents (now (ws .entry)))) (length (now (table .entry)) / 16)
+        (now (ws .exit)) (now (numbers .exit)) (now (out .entry)) (now (out .exit)) r ⌝ }
 {
     let count = table.len() / 16;
     let mut at: usize = 0;

@@ -25,7 +25,8 @@ pub fn offer_all(
 ) -> usize
     requires { ⌜ (soundWords (now ws) ≡ true) × (from + length (now due) / 12 ≤ 65536) ⌝ }
     requires { ⌜ Room (now out) start (textOf (offersOf (now numbers) (now due) from (contents (now ws)) .lines)) ⌝ }
-    ensures { λ r. ⌜ Offers (offersOf (now (numbers .entry)) (now (due .entry)) from (contents (now (ws .entry)))) (now (ws .exit)) (now (out .entry)) (now (out .exit)) start r ⌝ }
+    ensures { λ r. ⌜ Offers (offersOf (now (numbers .entry)) (now (due .entry)) from (contents (now (ws .entry)))) (now (ws .exit))
+        (now (out .entry)) (now (out .exit)) start r ⌝ }
 {
     let count = due.len() / 12;
     let mut at = start;

@@ -42,7 +42,8 @@ fn copy_factors(classes: &[u8], factors: &mut [u32])
 
 // The run of a plan in a box that is open.
 fn run_open(ws: &mut [u32], plan: &[u8], h: Header, out: &mut [u8]) -> usize
-    requires { ⌜ (soundWords (now ws) ≡ true) × (contents (now ws) ≡ newBox (contentsOf (wordsOf (now plan)) h .settings)) × Readable (now plan) h ⌝ }
+    requires { ⌜ (soundWords (now ws) ≡ true) × (contents (now ws) ≡ newBox (contentsOf (wordsOf (now plan)) h .settings)) ×
+        Readable (now plan) h ⌝ }
     requires { ⌜ Room (now out) 0 (textOf (openRun (contentsOf (wordsOf (now plan)) h))) ⌝ }
     ensures { λ r. ⌜ Put (now (out .entry)) (now (out .exit)) 0 (textOf (openRun (contentsOf (wordsOf (now (plan .entry))) h))) r ⌝ }
 {

@@ -106,9 +106,11 @@ fn run_slot(
     out: &mut [u8],
     start: usize,
 ) -> Slot
-    requires { ⌜ (soundWords (now ws) ≡ true) × Walked (now table) (contents (now ws)) passed × Sorted (now table) × (length (now numbers) ≤ 32) ⌝ }
+    requires { ⌜ (soundWords (now ws) ≡ true) × Walked (now table) (contents (now ws)) passed × Sorted (now table) ×
+        (length (now numbers) ≤ 32) ⌝ }
     requires { ⌜ Room (now out) start (textOf (linesOfSlot (now numbers) (now table) (contents (now ws)))) ⌝ }
-    ensures { λ r. ⌜ RunsSlot r (now (numbers .entry)) (now (table .entry)) (contents (now (ws .entry))) (now (ws .exit)) (now (out .entry)) (now (out .exit)) start ⌝ }
+    ensures { λ r. ⌜ RunsSlot r (now (numbers .entry)) (now (table .entry)) (contents (now (ws .entry))) (now (ws .exit))
+        (now (out .entry)) (now (out .exit)) start ⌝ }
 {
     let slot = counter(ws);
     let due = stretch(table, passed, slot);
@@ -153,7 +155,8 @@ pub fn run_slots(
 ) -> usize
     requires { ⌜ (soundWords (now ws) ≡ true) × (contents (now ws) .counter ≡ 0) × Sorted (now table) × (length (now numbers) ≤ 32) ⌝ }
     requires { ⌜ Room (now out) start (textOf (restOfRun (now numbers) (now table) (contents (now ws)))) ⌝ }
-    ensures { λ r. ⌜ Put (now (out .entry)) (now (out .exit)) start (textOf (restOfRun (now (numbers .entry)) (now (table .entry)) (contents (now (ws .entry))))) r ⌝ }
+    ensures { λ r. ⌜ Put (now (out .entry)) (now (out .exit)) start
+        (textOf (restOfRun (now (numbers .entry)) (now (table .entry)) (contents (now (ws .entry))))) r ⌝ }
 {
     let mut at = start;
     let mut passed: usize = 0;

@@ -43,13 +43,15 @@ put-number-slice-write-out : (t : ℕ) → put-number-lts.Need-slice-write-out (
   put-number-below t,
   put-number.Post,
 ) (put-number-at t) put-number.Post
-put-number-slice-write-out t c = let s = c .before .before in omega (arith, small-room (s .args .out .now) (s .args .at) (s .args .n) (s .pre .1) (c .if1 .taken))
+put-number-slice-write-out t c = let s = c .before .before in
+    omega (arith, small-room (s .args .out .now) (s .args .at) (s .args .n) (s .pre .1) (c .if1 .taken))
 
 put-number-add-result : (t : ℕ) → put-number-lts.Need-add-result (
   put-number-below t,
   put-number.Post,
 ) (put-number-at t) put-number.Post
-put-number-add-result t c = let s = c .before .before in omega (arith, small-room (s .args .out .now) (s .args .at) (s .args .n) (s .pre .1) (c .if1 .taken), s .good .0 .0)
+put-number-add-result t c = let s = c .before .before in
+    omega (arith, small-room (s .args .out .now) (s .args .at) (s .args .n) (s .pre .1) (c .if1 .taken), s .good .0 .0)
 
 put-number-same-length : (t : ℕ) → put-number-lts.Need-same-length (
   put-number-below t,
@@ -70,8 +72,11 @@ put-number-put-number-requires : (t : ℕ) → put-number-lts.Need-put-number-re
   put-number.Post,
 ) (put-number-at t) put-number.Post
 put-number-put-number-requires t c κs =
-    let s = c .before .before .before in
-    (omega (arith, s .pre .0, c .before .if1 .left), tenth-room (s .args .out .now) (s .args .at) (s .args .n) (s .pre .1) (c .before .if1 .left))
+    let s = c .before .before .before in (
+      omega (arith, s .pre .0, c .before .if1 .left),
+      tenth-room (s .args .out .now) (s .args .at) (s .args .n) (s .pre .1)
+          (c .before .if1 .left),
+    )
 
 put-number-cast-out-2 : (t : ℕ) → put-number-lts.Need-cast-out-2 (
   put-number-below t,
@@ -91,7 +96,11 @@ put-number-slice-write-out-2 : (t : ℕ) → put-number-lts.Need-slice-write-out
 ) (put-number-at t) put-number.Post
 put-number-slice-write-out-2 t c =
     let s = c .before .before .before .before .before .before in
-    omega (arith, last-room (s .args .out .now) (s .args .at) (s .args .n) (s .pre .1) (c .before .before .put-number .ensures) (c .before .before .before .before .if1 .left))
+    omega (
+      arith,
+      last-room (s .args .out .now) (s .args .at) (s .args .n) (s .pre .1) (c .before .before .put-number .ensures)
+          (c .before .before .before .before .if1 .left),
+    )
 
 put-number-add-result-2 : (t : ℕ) → put-number-lts.Need-add-result-2 (
   put-number-below t,
@@ -101,8 +110,10 @@ put-number-add-result-2 t c =
     let s = c .before .before .before .before .before .before in
     omega (
       arith,
-      last-room (s .args .out .now) (s .args .at) (s .args .n) (s .pre .1) (c .before .before .put-number .ensures) (c .before .before .before .before .if1 .left),
-      large-length (s .args .out .now) (s .args .at) (s .args .n) (s .pre .1) (c .before .before .put-number .ensures) (c .before .before .before .before .if1 .left),
+      last-room (s .args .out .now) (s .args .at) (s .args .n) (s .pre .1) (c .before .before .put-number .ensures)
+          (c .before .before .before .before .if1 .left),
+      large-length (s .args .out .now) (s .args .at) (s .args .n) (s .pre .1) (c .before .before .put-number .ensures)
+          (c .before .before .before .before .if1 .left),
       s .good .0 .0,
     )
 
@@ -113,7 +124,8 @@ put-number-same-length-2 : (t : ℕ) → put-number-lts.Need-same-length-2 (
 put-number-same-length-2 t c =
     let s = c .before .before .before .before .before .before in
     length-set (c .before .before .put-number .last .0) (c .before .before .put-number .result) (48 + s .args .n % 10) ∙
-    large-length (s .args .out .now) (s .args .at) (s .args .n) (s .pre .1) (c .before .before .put-number .ensures) (c .before .before .before .before .if1 .left)
+    large-length (s .args .out .now) (s .args .at) (s .args .n) (s .pre .1) (c .before .before .put-number .ensures)
+    (c .before .before .before .before .if1 .left)
 
 put-number-returns-2 : (t : ℕ) → put-number-lts.Need-returns-2 (
   put-number-below t,
@@ -121,7 +133,8 @@ put-number-returns-2 : (t : ℕ) → put-number-lts.Need-returns-2 (
 ) (put-number-at t) put-number.Post
 put-number-returns-2 t c =
     let s = c .before .before .before .before .before .before in
-    large-put (s .args .out .now) (s .args .at) (s .args .n) (s .pre .1) (c .before .before .put-number .ensures) (c .before .before .before .before .if1 .left)
+    large-put (s .args .out .now) (s .args .at) (s .args .n) (s .pre .1) (c .before .before .put-number .ensures)
+    (c .before .before .before .before .if1 .left)
 
 pub +put-number-spec : {M : Type 1} → statement M
 +put-number-spec = close μ-put-number λ t. put-number-lts.spec (

@@ -70,11 +70,13 @@ same-length c =
 -- src/lib.rt:11:1
 returns : tie.Need-returns Inv-loop μ-loop
 returns c =
-    let s = c .before .before in
-    let l = c .before .loop in
+    let at-loop = c .before in
+    let s = at-loop .before in
+    let l = at-loop .loop in
     let e : l .i ≡ length (s .args .s .now) = omega arith in
     record {
-      bytes = l .inv .1 ∙ ap (paste (s .args .out .now) (s .args .at) (s .args .s .now)) e ∙ put-paste (s .args .out .now) (s .args .at) (s .args .s .now);
+      bytes = l .inv .1 ∙ ap (paste (s .args .out .now) (s .args .at) (s .args .s .now)) e ∙
+          put-paste (s .args .out .now) (s .args .at) (s .args .s .now);
       place = omega arith;
     }
 

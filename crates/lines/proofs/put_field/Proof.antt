@@ -8,15 +8,26 @@ use Rattle.lines.proofs.put_field.Statement.{statement}
 use Rattle.lines.proofs.put_field.Tie as tie
 
 put-number-requires : tie.Need-put-number-requires
-put-number-requires c κs = let s = c .before .before in room-first (s .args .out .now) (s .args .at) (decimal (s .args .n)) (s .args .after ∷ []) (s .pre)
+put-number-requires c κs =
+    let s = c .before .before in
+    room-first (s .args .out .now) (s .args .at) (decimal (s .args .n)) (s .args .after ∷ []) (s .pre)
 
 slice-write-out : tie.Need-slice-write-out
-slice-write-out c = let s = c .before .before .before .before .before in omega (arith, room-after (s .args .after ∷ []) (c .before .before .put-number .ensures) (s .pre))
+slice-write-out c =
+    let after-put-number = c .before .before in
+    let s = after-put-number .before .before .before in
+    omega (arith, room-after (s .args .after ∷ []) (after-put-number .put-number .ensures) (s .pre))
 
 add-result : tie.Need-add-result
 add-result c =
-    let s = c .before .before .before .before .before in
-    omega (arith, room-after (s .args .after ∷ []) (c .before .before .put-number .ensures) (s .pre), c .before .before .put-number .kept .0, s .good .0 .0)
+    let after-put-number = c .before .before in
+    let s = after-put-number .before .before .before in
+    omega (
+      arith,
+      room-after (s .args .after ∷ []) (after-put-number .put-number .ensures) (s .pre),
+      after-put-number .put-number .kept .0,
+      s .good .0 .0,
+    )
 
 same-length : tie.Need-same-length
 same-length c = search needs

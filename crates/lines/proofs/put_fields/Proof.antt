@@ -52,16 +52,19 @@ loop-less c = search needs
 
 loop-again : tie.Need-loop-again Inv-loop μ-loop
 loop-again c =
-    let s = c .before .before .before .before .before .before .before .before .before .before in
-    let l = c .before .before .before .before .before .before .before .loop in
-    let byte = c .before .before .before .byte-after in
+    let after-put-field = c .before .before in
+    let after-byte-after = after-put-field .before in
+    let at-loop = after-byte-after .before .before .before .before in
+    let s = at-loop .before .before .before in
+    let l = at-loop .loop in
+    let byte = after-byte-after .byte-after in
     let numbers = s .args .numbers .now in
     let piece = field (getD numbers (l .i) 0) (byte .result) in
     let rest = fields (drop (l .i + 1) numbers) in (
       omega arith,
       reached-on piece rest (s .pre)
           (reached-as (piece ++ rest) (fields-from numbers (l .i) (byte .result) (omega arith) (byte .ensures)) (l .inv .1))
-          (c .before .before .put-field .ensures),
+          (after-put-field .put-field .ensures),
     )
 
 same-length : tie.Need-same-length Inv-loop μ-loop

@@ -20,8 +20,10 @@ same-length c = search needs
 
 returns : tie.Need-returns
 returns c =
-    let s = c .before .before .before .before .before .before .before .before .before .before .before in
-    then (c .before .before .before .before .before .before .put-bytes .ensures) (c .before .before .put-fields .ensures) (s .pre)
+    let after-put-fields = c .before .before in
+    let after-put-bytes = after-put-fields .before .before .before .before in
+    let s = after-put-bytes .before .before .before .before .before in
+    then (after-put-bytes .put-bytes .ensures) (after-put-fields .put-fields .ensures) (s .pre)
 
 pub put-line-spec : {M : Type 1} → statement M
 put-line-spec = tie.close (tie.spec put-bytes-requires put-fields-requires same-length returns)

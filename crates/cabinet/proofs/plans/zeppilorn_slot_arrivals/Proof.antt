@@ -15,7 +15,9 @@ stretch-requires : tie.Need-stretch-requires
 stretch-requires c κs = search needs
 
 -- the size that was measured
-size : (c : tie.After-stretch) → length (c .stretch .result .now) ≡ stretchSize (c .before .before .args .arrivals .now) (c .before .before .args .from) (c .before .before .args .slot)
+size : (c : tie.After-stretch)
+    → length (c .stretch .result .now) ≡
+    stretchSize (c .before .before .args .arrivals .now) (c .before .before .args .from) (c .before .before .args .slot)
 unfolding stretchSize
 size c = ap length (c .stretch .ensures)
 
@@ -29,11 +31,15 @@ first-from-requires : tie.Need-first-from-requires
 first-from-requires c κs = search needs
 
 -- the stretch is not empty
-some : (c : tie.Else1) → 0 < stretchSize (c .before .before .before .args .arrivals .now) (c .before .before .before .args .from) (c .before .before .before .args .slot)
+some : (c : tie.Else1)
+    → 0 < stretchSize (c .before .before .before .args .arrivals .now) (c .before .before .before .args .from)
+    (c .before .before .before .args .slot)
 some c = omega (arith, size (c .before))
 
 -- where it starts
-start : (c : tie.After-first-from) → c .first-from .result ≡ stretchStart (c .before .before .before .before .args .arrivals .now) (c .before .before .before .before .args .from) (c .before .before .before .before .args .slot)
+start : (c : tie.After-first-from)
+    → c .first-from .result ≡ stretchStart (c .before .before .before .before .args .arrivals .now)
+    (c .before .before .before .before .args .from) (c .before .before .before .before .args .slot)
 unfolding stretchStart
 start c = c .first-from .ensures
 

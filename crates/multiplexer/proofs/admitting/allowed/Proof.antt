@@ -30,7 +30,8 @@ returns c =
 
 -- The class is in range.
 class-in : (c : tie.Else1) →
-    within 1 (c .before .before .before .before .args .c .class) (classCount (contents (c .before .before .before .before .args .ws .now) .settings)) ≡ true
+    within 1 (c .before .before .before .before .args .c .class)
+    (classCount (contents (c .before .before .before .before .args .ws .now) .settings)) ≡ true
 class-in c =
     let a = c .before .before .before .before .args in
     let test = c .before .is-within in
@@ -73,10 +74,16 @@ is-within-requires-4 c κs = search needs
 
 returns-4 : tie.Need-returns-4
 returns-4 c =
-    let a = c .before .before .before .before .before .before .before .before .before .before .before .args in
-    let test = c .before .is-within4 in
-    let cycle = c .before .before .cycle in
-    period-off (contents (a .ws .now) .settings) (a .c) (class-in (c .before .before .before .before .before .before .before)) (longest-in (c .before .before .before .before .before)) (burst-in (c .before .before .before))
+    let after-is-within4 = c .before in
+    let after-cycle = after-is-within4 .before in
+    let at-burst-in = after-cycle .before in
+    let at-longest-in = at-burst-in .before .before in
+    let at-class-in = at-longest-in .before .before in
+    let start = at-class-in .before .before .before .before in
+    let a = start .args in
+    let test = after-is-within4 .is-within4 in
+    let cycle = after-cycle .cycle in
+    period-off (contents (a .ws .now) .settings) (a .c) (class-in at-class-in) (longest-in at-longest-in) (burst-in at-burst-in)
     (ap (within 1 (a .c .period)) (sym (cycle .ensures)) ∙ sym (test .ensures) ∙ not-true (test .result) (c .if4 .taken))
 
 -- T is in range.
@@ -84,26 +91,38 @@ period-in : (c : tie.Else4) →
     (let a = c .before .before .before .before .before .before .before .before .before .before .before .args in
     within 1 (a .c .period) (contents (a .ws .now) .settings .cycle) ≡ true)
 period-in c =
-    let a = c .before .before .before .before .before .before .before .before .before .before .before .args in
-    let test = c .before .is-within4 in
-    let cycle = c .before .before .cycle in
+    let after-is-within4 = c .before in
+    let after-cycle = after-is-within4 .before in
+    let start = after-cycle .before .before .before .before .before .before .before .before .before in
+    let a = start .args in
+    let test = after-is-within4 .is-within4 in
+    let cycle = after-cycle .cycle in
     ap (within 1 (a .c .period)) (sym (cycle .ensures)) ∙ sym (test .ensures) ∙ not-false (test .result) (c .if4 .left)
 
 cycle-requires-2 : tie.Need-cycle-requires-2
-cycle-requires-2 c κs = let s = c .before .before .before .before .before .before .before .before .before .before .before in sound-fitting (s .args .ws .now) (s .pre)
+cycle-requires-2 c κs =
+    let s = c .before .before .before .before .before .before .before .before .before .before .before in
+    sound-fitting (s .args .ws .now) (s .pre)
 
 rem-result : tie.Need-rem-result
 rem-result c =
-    let a = c .before .before .before .before .before .before .before .before .before .before .before .before .args in
-    let k : 1 ≤ a .c .period = within-facts 1 (a .c .period) (contents (a .ws .now) .settings .cycle) (period-in (c .before)) .0 in
+    let at-period-in = c .before in
+    let start = at-period-in .before .before .before .before .before .before .before .before .before .before .before in
+    let a = start .args in
+    let k : 1 ≤ a .c .period = within-facts 1 (a .c .period) (contents (a .ws .now) .settings .cycle) (period-in at-period-in) .0 in
     omega arith
 
 returns-5 : tie.Need-returns-5
 returns-5 c =
-    let a = c .before .before .before .before .before .before .before .before .before .before .before .before .args in
+    let at-period-in = c .before in
+    let at-burst-in = at-period-in .before .before .before in
+    let at-longest-in = at-burst-in .before .before in
+    let at-class-in = at-longest-in .before .before in
+    let start = at-class-in .before .before .before .before in
+    let a = start .args in
     ap (λ m. eqb (m % a .c .period) 0) (c .cycle2 .ensures) ∙
-    divides (contents (a .ws .now) .settings) (a .c) (class-in (c .before .before .before .before .before .before .before .before)) (longest-in (c .before .before .before .before .before .before))
-    (burst-in (c .before .before .before .before)) (period-in (c .before))
+    divides (contents (a .ws .now) .settings) (a .c) (class-in at-class-in) (longest-in at-longest-in)
+    (burst-in at-burst-in) (period-in at-period-in)
 
 pub allowed-spec : {M : Type 1} → statement M
 allowed-spec =

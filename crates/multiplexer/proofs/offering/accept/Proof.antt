@@ -6,13 +6,13 @@ use native.Mathlib.Omega.{arith}
 use Rattle.meaning.specs.declared.Allowance.{Allowance}
 use Rattle.meaning.specs.Envelope.{conforms, charged as chargedIs}
 use Rattle.meaning.specs.Queues.{joinTail}
-use Rattle.words.specs.Places.{word}
 use Rattle.words.specs.Contents.{contents}
 use Rattle.words.specs.Changes.{Become}
 use Rattle.store.specs.StoreChanges.{withQueues}
 use Rattle.words.proofs.Counts.{sound-fitting}
 use Rattle.multiplexer.specs.Promised.{RowReady}
-use Rattle.multiplexer.proofs.Offers.{packet-is, row-ready, class-within, accepted-most, envelope-ready, conforms-same, charged-same, number-within, join-ready, count-ready, accepted-becomes}
+use Rattle.multiplexer.proofs.Offers.{packet-is, row-ready, class-within, accepted-most, envelope-ready, conforms-same}
+use Rattle.multiplexer.proofs.Offers.{charged-same, number-within, join-ready, count-ready, accepted-becomes}
 use borrow.Author.Needs.{needs}
 use Rattle.multiplexer.proofs.offering.accept.Statement.{statement}
 use Rattle.multiplexer.proofs.offering.accept.Tie as tie
@@ -24,7 +24,9 @@ accepted-requires : tie.Need-accepted-requires
 accepted-requires c κs = let s = c .before .before .before .before in sound-fitting (s .args .ws .now) (s .pre .sound-words)
 
 add-serial : tie.Need-add-serial
-add-serial c = let s = c .before .before .before .before .before in omega (arith, c .accepted .ensures, accepted-most (s .args .ws .now) (s .pre .sound-words))
+add-serial c =
+    let s = c .before .before .before .before .before in
+    omega (arith, c .accepted .ensures, accepted-most (s .args .ws .now) (s .pre .sound-words))
 
 tag-of-requires : tie.Need-tag-of-requires
 tag-of-requires c κs =
@@ -55,34 +57,44 @@ write-allowance-requires c κs =
 
 join-requires : tie.Need-join-requires
 join-requires c κs =
-    let s = c .before .before .before .before .before .before .before .before .before .before .before .before .before in
+    let after-write-allowance = c .before .before .before in
+    let after-charge-record = after-write-allowance .before .before in
+    let after-tag-of = after-charge-record .before in
+    let s = after-tag-of .before .before .before .before .before .before .before in
     let ws = s .args .ws .now in
     let ok = s .pre in
     let row = s .args .row in
     let n = s .args .n in
     let units = s .args .units in
-    let charged = c .before .before .before .before .before .charge-record in
-    let tag = c .before .before .before .before .before .before .tag-of in
-    let wrote = c .before .before .before .write-allowance in
+    let charged = after-charge-record .charge-record in
+    let tag = after-tag-of .tag-of in
+    let wrote = after-write-allowance .write-allowance in
     let a : Allowance = record { next = charged .result .next; credit = charged .result .credit } in
     join-ready ws n units row ok a (tag .result) (wrote .last .0) (wrote .ensures) (tag .ensures .1)
 
 count-accepted-requires : tie.Need-count-accepted-requires
 count-accepted-requires c κs =
-    let s = c .before .before .before .before .before .before .before .before .before .before .before .before .before .before .before .before .before in
+    let after-join = c .before .before .before in
+    let after-write-allowance = after-join .before .before .before .before in
+    let after-charge-record = after-write-allowance .before .before in
+    let after-tag-of = after-charge-record .before in
+    let after-accepted = after-tag-of .before .before in
+    let after-counter = after-accepted .before .before in
+    let s = after-counter .before .before .before in
     let ws = s .args .ws .now in
     let ok = s .pre in
     let row = s .args .row in
     let n = s .args .n in
     let units = s .args .units in
-    let charged = c .before .before .before .before .before .before .before .before .before .charge-record in
-    let tag = c .before .before .before .before .before .before .before .before .before .before .tag-of in
-    let wrote = c .before .before .before .before .before .before .before .write-allowance in
+    let charged = after-charge-record .charge-record in
+    let tag = after-tag-of .tag-of in
+    let wrote = after-write-allowance .write-allowance in
     let a : Allowance = record { next = charged .result .next; credit = charged .result .credit } in
-    let joined = c .before .before .before .join in
-    let slot = c .before .before .before .before .before .before .before .before .before .before .before .before .before .before .counter in
-    let serial = c .before .before .before .before .before .before .before .before .before .before .before .before .accepted in
-    let joins = subst (λ p. Become (wrote .last .0) (joined .last .0) (withQueues (contents (wrote .last .0)) (joinTail (tag .result) p (contents (wrote .last .0) .queues))))
+    let joined = after-join .join in
+    let slot = after-counter .counter in
+    let serial = after-accepted .accepted in
+    let joins = subst (λ p. Become (wrote .last .0) (joined .last .0)
+    (withQueues (contents (wrote .last .0)) (joinTail (tag .result) p (contents (wrote .last .0) .queues))))
     (packet-is ws n units (serial .result) (slot .result) (serial .ensures) (slot .ensures)) (joined .ensures) in
     count-ready ws n units row ok a (tag .result) (wrote .last .0) (wrote .ensures) (joined .last .0) joins
 
@@ -91,26 +103,35 @@ same-length c = search needs
 
 returns : tie.Need-returns
 returns c =
-    let s = c .before .before .before .before .before .before .before .before .before .before .before .before .before .before .before .before .before .before .before .before in
+    let after-count-accepted = c .before .before in
+    let after-join = after-count-accepted .before .before .before .before in
+    let after-write-allowance = after-join .before .before .before .before in
+    let after-charge-record = after-write-allowance .before .before in
+    let after-tag-of = after-charge-record .before in
+    let after-accepted = after-tag-of .before .before in
+    let after-counter = after-accepted .before .before in
+    let s = after-counter .before .before .before in
     let ws = s .args .ws .now in
     let ok = s .pre in
     let row = s .args .row in
     let n = s .args .n in
     let units = s .args .units in
-    let charged = c .before .before .before .before .before .before .before .before .before .before .before .before .charge-record in
-    let tag = c .before .before .before .before .before .before .before .before .before .before .before .before .before .tag-of in
-    let wrote = c .before .before .before .before .before .before .before .before .before .before .write-allowance in
+    let charged = after-charge-record .charge-record in
+    let tag = after-tag-of .tag-of in
+    let wrote = after-write-allowance .write-allowance in
     let a : Allowance = record { next = charged .result .next; credit = charged .result .credit } in
-    let joined = c .before .before .before .before .before .before .join in
-    let counted = c .before .before .count-accepted in
-    let slot = c .before .before .before .before .before .before .before .before .before .before .before .before .before .before .before .before .before .counter in
-    let serial = c .before .before .before .before .before .before .before .before .before .before .before .before .before .before .before .accepted in
-    let joins = subst (λ p. Become (wrote .last .0) (joined .last .0) (withQueues (contents (wrote .last .0)) (joinTail (tag .result) p (contents (wrote .last .0) .queues))))
+    let joined = after-join .join in
+    let counted = after-count-accepted .count-accepted in
+    let slot = after-counter .counter in
+    let serial = after-accepted .accepted in
+    let joins = subst (λ p. Become (wrote .last .0) (joined .last .0)
+    (withQueues (contents (wrote .last .0)) (joinTail (tag .result) p (contents (wrote .last .0) .queues))))
     (packet-is ws n units (serial .result) (slot .result) (serial .ensures) (slot .ensures)) (joined .ensures) in
     let e : a ≡ chargedIs (row .asked) (row .allowance) (contents ws .counter) =
     charged .ensures ∙ charged-same row (row .allowance) (slot .result) ∙ ap (chargedIs (row .asked) (row .allowance)) (slot .ensures) in (
       add-one (serial .result) ∙ ap suc (serial .ensures),
-      accepted-becomes ws n units row ok a (tag .result) (wrote .last .0) (wrote .ensures) (joined .last .0) joins e (tag .ensures .0) (tag .ensures .1) (counted .last .0) (counted .ensures),
+      accepted-becomes ws n units row ok a (tag .result) (wrote .last .0) (wrote .ensures) (joined .last .0) joins e (tag .ensures .0)
+          (tag .ensures .1) (counted .last .0) (counted .ensures),
     )
 
 pub accept-spec : {M : Type 1} → statement M

@@ -20,11 +20,15 @@ same-length c = search needs
 returns : tie.Need-returns
 unfolding offering wordsOffered
 returns c =
-    let s = c .before .before .before .before in
-    let i = c .before .is-sound in
+    let after-is-sound = c .before in
+    let s = after-is-sound .before .before .before in
+    let i = after-is-sound .is-sound in
     let ws = s .args .ws .now in
-    let e : soundWords ws ≡ false = sym (i .ensures) ∙ not-true (i .result) (c .if1 .taken) in
-    (rw e refl, unchanged ws (afterOffer (contents ws) (s .args .n) (s .args .units) (offerAnswer (contents ws) (s .args .n) (s .args .units))) e)
+    let e : soundWords ws ≡ false = sym (i .ensures) ∙ not-true (i .result) (c .if1 .taken) in (
+      rw e refl,
+      unchanged ws
+          (afterOffer (contents ws) (s .args .n) (s .args .units) (offerAnswer (contents ws) (s .args .n) (s .args .units))) e,
+    )
 
 offer-sound-requires : tie.Need-offer-sound-requires
 offer-sound-requires c κs = let i = c .before .before .is-sound in sym (i .ensures) ∙ not-false (i .result) (c .before .if1 .left)
@@ -35,13 +39,18 @@ same-length-2 c = search needs
 returns-2 : tie.Need-returns-2
 unfolding offering wordsOffered
 returns-2 c =
-    let s = c .before .before .before .before .before .before .before .before in
-    let i = c .before .before .before .before .before .is-sound in
+    let after-offer-sound = c .before .before in
+    let at-if1 = after-offer-sound .before .before in
+    let after-is-sound = at-if1 .before in
+    let s = after-is-sound .before .before .before in
+    let i = after-is-sound .is-sound in
     let ws = s .args .ws .now in
-    let m = c .before .before .offer-sound in
-    let e : soundWords ws ≡ true = sym (i .ensures) ∙ not-false (i .result) (c .before .before .before .before .if1 .left) in (
+    let m = after-offer-sound .offer-sound in
+    let e : soundWords ws ≡ true = sym (i .ensures) ∙ not-false (i .result) (at-if1 .if1 .left) in (
       m .ensures .0 ∙ rw e refl,
-      promised ws (m .last .0) (afterOffer (contents ws) (s .args .n) (s .args .units) (offerAnswer (contents ws) (s .args .n) (s .args .units))) e (m .ensures .1),
+      promised ws (m .last .0)
+          (afterOffer (contents ws) (s .args .n) (s .args .units) (offerAnswer (contents ws) (s .args .n) (s .args .units))) e
+          (m .ensures .1),
     )
 
 pub offer-spec : {M : Type 1} → statement M

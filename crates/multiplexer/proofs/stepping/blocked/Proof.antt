@@ -16,7 +16,11 @@ tag-zero-waits-requires : tie.Need-tag-zero-waits-requires
 tag-zero-waits-requires c κs = let s = c .before .before .before in sound-fitting (s .args .ws .now) (s .pre)
 
 returns-2 : tie.Need-returns-2
-returns-2 c = rw (sym (c .before .before .turn-due .ensures) ∙ not-false (c .before .before .turn-due .result) (c .before .if1 .left)) (c .tag-zero-waits .ensures)
+returns-2 c =
+    let at-if1 = c .before in
+    let after-turn-due = at-if1 .before in
+    rw (sym (after-turn-due .turn-due .ensures) ∙ not-false (after-turn-due .turn-due .result) (at-if1 .if1 .left))
+    (c .tag-zero-waits .ensures)
 
 pub blocked-spec : {M : Type 1} → statement M
 blocked-spec = tie.close (tie.spec turn-due-requires returns tag-zero-waits-requires returns-2)

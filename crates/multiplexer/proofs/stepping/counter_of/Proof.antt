@@ -1,5 +1,4 @@
 -- `multiplexer::stepping::counter_of` meets its contract.
-use mathlib.Core.Path.{sym}
 use native.Mathlib.Omega.{arith}
 use Rattle.words.proofs.Counts.{sound-fitting}
 use Rattle.multiplexer.proofs.Sounds.{counter-most}

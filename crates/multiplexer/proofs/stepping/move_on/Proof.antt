@@ -1,13 +1,8 @@
 -- `multiplexer::stepping::move_on` meets its contract.
 use mathlib.Core.Path.{ap, ap₂, _∙_}
 use native.Mathlib.Numerals.{add-one}
-use mathlib.Core.Bool.{true, false}
-use Prim.Native.Nat.{suc, _<_}
-use native.Mathlib.Omega.{arith}
-use Rattle.meaning.specs.Queues.{turnAt, tagZeroWaits}
+use Prim.Native.Nat.{suc}
 use Rattle.meaning.specs.Step.{sentAnswer}
-use Rattle.words.specs.Contents.{contents}
-use Rattle.words.specs.Changes.{Become}
 use Rattle.multiplexer.proofs.Steps.{raise-ready, link-same, whole-step}
 use borrow.Author.Needs.{needs}
 use Rattle.multiplexer.proofs.stepping.move_on.Statement.{statement}
@@ -27,9 +22,11 @@ send-unit-requires c κs = search needs
 
 raise-counter-requires : tie.Need-raise-counter-requires
 raise-counter-requires c κs =
-    let s = c .before .before .before .before .before .before .before .before .before .before .before .before in
-    let l = c .before .before .before .before .before .before .before .load-link in
-    let u = c .before .before .before .send-unit in
+    let after-send-unit = c .before .before .before in
+    let after-load-link = after-send-unit .before .before .before .before in
+    let s = after-load-link .before .before .before .before .before in
+    let l = after-load-link .load-link in
+    let u = after-send-unit .send-unit in
     raise-ready (s .args .ws .now) (l .last .0) (u .last .0) (l .ensures) (u .ensures .1) (s .pre .1 .0) (s .pre .1 .1)
 
 same-length : tie.Need-same-length
@@ -37,12 +34,17 @@ same-length c = search needs
 
 returns : tie.Need-returns
 returns c =
-    let s = c .before .before .before .before .before .before .before .before .before .before .before .before .before .before .before in
-    let l = c .before .before .before .before .before .before .before .before .before .before .load-link in
-    let u = c .before .before .before .before .before .before .send-unit in
-    let w = c .before .before .raise-counter in
-    let n = c .before .before .before .before .before .before .before .before .before .before .before .before .counter-of in (
-      u .ensures .0 ∙ ap₂ sentAnswer (add-one (n .result) ∙ ap suc (n .ensures .0)) (link-same (s .args .ws .now) (l .last .0) (u .last .0) (l .ensures) (u .ensures .1)),
+    let after-raise-counter = c .before .before in
+    let after-send-unit = after-raise-counter .before .before .before .before in
+    let after-load-link = after-send-unit .before .before .before .before in
+    let after-counter-of = after-load-link .before .before in
+    let s = after-counter-of .before .before .before in
+    let l = after-load-link .load-link in
+    let u = after-send-unit .send-unit in
+    let w = after-raise-counter .raise-counter in
+    let n = after-counter-of .counter-of in (
+      u .ensures .0 ∙ ap₂ sentAnswer (add-one (n .result) ∙ ap suc (n .ensures .0))
+          (link-same (s .args .ws .now) (l .last .0) (u .last .0) (l .ensures) (u .ensures .1)),
       whole-step (s .args .ws .now) (l .last .0) (u .last .0) (l .ensures) (u .ensures .1) (w .last .0) (w .ensures),
     )
 

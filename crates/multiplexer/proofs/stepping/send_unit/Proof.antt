@@ -31,10 +31,12 @@ same-length-2 c = search needs
 
 returns-2 : tie.Need-returns-2
 returns-2 c =
-    let s = c .before .before .before .before .before .before .before .before .before in
+    let after-write-link = c .before .before in
+    let after-read-link = after-write-link .before .before .before .before in
+    let s = after-read-link .before .before .before in
     let ws = s .args .ws .now in
-    let l = c .before .before .before .before .before .before .read-link in
-    let w = c .before .before .write-link in
+    let l = after-read-link .read-link in
+    let w = after-write-link .write-link in
     let one : l .result .left ≡ 1 = omega arith in
     let e = last-sent (contents ws) (s .args .departure) (l .result .packet) (l .result .left) one (l .ensures) noPacket in
     (e .0, subst (Become ws (w .last .0)) (e .1) (w .ensures))
@@ -53,10 +55,12 @@ same-length-3 c = search needs
 
 returns-3 : tie.Need-returns-3
 returns-3 c =
-    let s = c .before .before .before .before .before .before .before .before .before in
+    let after-write-link2 = c .before .before in
+    let after-read-link = after-write-link2 .before .before .before .before in
+    let s = after-read-link .before .before .before in
     let ws = s .args .ws .now in
-    let l = c .before .before .before .before .before .before .read-link in
-    let w = c .before .before .write-link2 in
+    let l = after-read-link .read-link in
+    let w = after-write-link2 .write-link2 in
     let e = one-sent (contents ws) (s .args .departure) (l .result .packet) (l .result .left) (omega arith) (l .ensures) in
     (e .0, subst (Become ws (w .last .0)) (e .1) (w .ensures))
 

@@ -38,9 +38,13 @@ same-length-3 c = search needs
 
 returns-3 : tie.Need-returns-3
 returns-3 c =
-    let s = c .before .before .before .before .before .before .before .before .before .before .before in
-    let m = c .before .before .move-on in
-    at-move (s .args .ws .now) (s .pre) (m .last .0) (m .result) (omega arith) (sym (c .before .before .before .before .before .blocked .ensures) ∙ c .before .before .before .before .if2 .left) (m .ensures .0) (m .ensures .1)
+    let after-move-on = c .before .before in
+    let at-if2 = after-move-on .before .before in
+    let after-blocked = at-if2 .before in
+    let s = after-blocked .before .before .before .before .before .before in
+    let m = after-move-on .move-on in
+    at-move (s .args .ws .now) (s .pre) (m .last .0) (m .result) (omega arith)
+    (sym (after-blocked .blocked .ensures) ∙ at-if2 .if2 .left) (m .ensures .0) (m .ensures .1)
 
 pub step-sound-spec : {M : Type 1} → statement M
 step-sound-spec =

@@ -45,13 +45,15 @@ told-as c =
 
 add-put-admit : tie.Need-add-put-admit Inv-loop μ-loop
 add-put-admit c =
-    let s = c .before .before .before .before .before .before .before .before .before .before .before .before .before in
-    omega (arith, c .before .before .before .before .before .before .before .loop-test .taken, s .pre .0 .1, s .pre .0 .2)
+    let in-loop = c .before .before .before .before .before .before .before in
+    let s = in-loop .before .before .before .before .before .before in
+    omega (arith, in-loop .loop-test .taken, s .pre .0 .1, s .pre .0 .2)
 
 cast-put-admit : tie.Need-cast-put-admit Inv-loop μ-loop
 cast-put-admit c =
-    let s = c .before .before .before .before .before .before .before .before .before .before .before .before .before in
-    omega (arith, c .before .before .before .before .before .before .before .loop-test .taken, s .pre .0 .1, s .pre .0 .2)
+    let in-loop = c .before .before .before .before .before .before .before in
+    let s = in-loop .before .before .before .before .before .before in
+    omega (arith, in-loop .loop-test .taken, s .pre .0 .1, s .pre .0 .2)
 
 array-read-put-admit : tie.Need-array-read-put-admit Inv-loop μ-loop
 array-read-put-admit c = search needs
@@ -61,11 +63,15 @@ array-read-put-admit-2 c = search needs
 
 put-admit-requires : tie.Need-put-admit-requires Inv-loop μ-loop
 put-admit-requires c κs =
-    let s = c .before .before .before .before .before .before .before .before .before .before .before .before .before in
-    let loop = c .before .before .before .before .before .before .before .before .loop in
-    let below = c .before .before .before .before .before .before .before .loop-test .taken in
-    let read = c .before .before .before .before .before .before .connection in
-    let answer = told-as (c .before) in
+    let at-told-as = c .before in
+    let after-connection = at-told-as .before .before .before .before .before in
+    let in-loop = after-connection .before in
+    let at-loop = in-loop .before in
+    let s = at-loop .before .before .before .before .before in
+    let loop = at-loop .loop in
+    let below = in-loop .loop-test .taken in
+    let read = after-connection .connection in
+    let answer = told-as at-told-as in
     admit-room (s .args .table .now) (loop .i) _ (read .ensures) below (s .pre .1) (loop .inv .4) _ _ _ (omega arith)
     (told-number _ answer) (told-field _ answer 1)
 
@@ -74,32 +80,44 @@ array-read-numbers c = search needs
 
 mul-numbers : tie.Need-mul-numbers Inv-loop μ-loop
 mul-numbers c =
-    let s = c .before .before .before .before .before .before .before .before .before .before .before .before .before .before .before .before in
-    omega (arith, c .before .before .before .before .before .before .before .before .before .before .loop-test .taken, s .pre .0 .1, s .pre .0 .2)
+    let in-loop = c .before .before .before .before .before .before .before .before .before .before in
+    let s = in-loop .before .before .before .before .before .before in
+    omega (arith, in-loop .loop-test .taken, s .pre .0 .1, s .pre .0 .2)
 
 slice-write-numbers : tie.Need-slice-write-numbers Inv-loop μ-loop
 slice-write-numbers c =
-    let s = c .before .before .before .before .before .before .before .before .before .before .before .before .before .before .before .before in
-    omega (arith, c .before .before .before .before .before .before .before .before .before .before .loop-test .taken, s .pre .0 .1, c .before .before .before .before .before .before .before .before .before .before .before .loop .inv .2)
+    let in-loop = c .before .before .before .before .before .before .before .before .before .before in
+    let at-loop = in-loop .before in
+    let s = at-loop .before .before .before .before .before in
+    omega (arith, in-loop .loop-test .taken, s .pre .0 .1, at-loop .loop .inv .2)
 
 add-i : tie.Need-add-i Inv-loop μ-loop
 add-i c =
-    let s = c .before .before .before .before .before .before .before .before .before .before .before .before .before .before .before .before in
-    omega (arith, c .before .before .before .before .before .before .before .before .before .before .loop-test .taken, s .pre .0 .1, s .pre .0 .2)
+    let in-loop = c .before .before .before .before .before .before .before .before .before .before in
+    let s = in-loop .before .before .before .before .before .before in
+    omega (arith, in-loop .loop-test .taken, s .pre .0 .1, s .pre .0 .2)
 
 loop-less : tie.Need-loop-less Inv-loop μ-loop
-loop-less c = omega (arith, c .before .before .before .before .before .before .before .before .before .before .loop-test .taken)
+loop-less c =
+    let in-loop = c .before .before .before .before .before .before .before .before .before .before in
+    omega (arith, in-loop .loop-test .taken)
 
 loop-again : tie.Need-loop-again Inv-loop μ-loop
 loop-again c =
-    let s = c .before .before .before .before .before .before .before .before .before .before .before .before .before .before .before .before in
-    let loop = c .before .before .before .before .before .before .before .before .before .before .before .loop in
+    let after-put-admit = c .before .before in
+    let at-told-as = after-put-admit .before .before in
+    let after-admit-sound = at-told-as .before .before .before in
+    let after-connection = after-admit-sound .before .before in
+    let in-loop = after-connection .before in
+    let at-loop = in-loop .before in
+    let s = at-loop .before .before .before .before .before in
+    let loop = at-loop .loop in
     let i = loop .inv in
-    let below = c .before .before .before .before .before .before .before .before .before .before .loop-test .taken in
-    let read = c .before .before .before .before .before .before .before .before .before .connection in
-    let admission = c .before .before .before .before .before .before .before .admit-sound in
-    let answer = told-as (c .before .before .before .before) in
-    let line = c .before .before .put-admit in (
+    let below = in-loop .loop-test .taken in
+    let read = after-connection .connection in
+    let admission = after-admit-sound .admit-sound in
+    let answer = told-as at-told-as in
+    let line = after-put-admit .put-admit in (
       omega (arith, below),
       omega (arith, i .1, admission .kept .0),
       simp length-set (omega (arith, i .2)),

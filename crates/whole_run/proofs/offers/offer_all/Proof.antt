@@ -44,7 +44,8 @@ tell-offered-requires c κs = search needs
 told-as : (c : tie.After-tell-offered Inv-loop μ-loop) →
     (let box = contents (c .before .before .before .before .before .before .before .before .loop .ws) in
     let a = c .before .before .before .before .before .before .arrival .result in
-    let n = numberOf (c .before .before .before .before .before .before .before .before .before .before .before .before .before .args .numbers .now) (a .place) in
+    let n = numberOf (c .before .before .before .before .before .before .before .before .before .before .before .before .before .args
+    .numbers .now) (a .place) in
     c .tell-offered .result ≡ told (offered (offerAnswer box n (a .units))))
 told-as c =
     let box = contents (c .before .before .before .before .before .before .before .before .loop .ws) in
@@ -54,13 +55,22 @@ told-as c =
     c .tell-offered .ensures ∙ ap (λ (a : Offered). told (offered a)) answer
 
 add-put-offer : tie.Need-add-put-offer Inv-loop μ-loop
-add-put-offer c = omega (arith, c .before .before .before .before .before .before .before .before .loop-test .taken, c .before .before .before .before .before .before .before .before .before .before .before .before .before .before .pre .0 .1)
+add-put-offer c =
+    let in-loop = c .before .before .before .before .before .before .before .before in
+    let start = in-loop .before .before .before .before .before .before in
+    omega (arith, in-loop .loop-test .taken, start .pre .0 .1)
 
 add-put-offer-2 : tie.Need-add-put-offer-2 Inv-loop μ-loop
-add-put-offer-2 c = omega (arith, c .before .before .before .before .before .before .before .before .loop-test .taken, c .before .before .before .before .before .before .before .before .before .before .before .before .before .before .pre .0 .1)
+add-put-offer-2 c =
+    let in-loop = c .before .before .before .before .before .before .before .before in
+    let start = in-loop .before .before .before .before .before .before in
+    omega (arith, in-loop .loop-test .taken, start .pre .0 .1)
 
 cast-put-offer : tie.Need-cast-put-offer Inv-loop μ-loop
-cast-put-offer c = omega (arith, c .before .before .before .before .before .before .before .before .loop-test .taken, c .before .before .before .before .before .before .before .before .before .before .before .before .before .before .pre .0 .1)
+cast-put-offer c =
+    let in-loop = c .before .before .before .before .before .before .before .before in
+    let start = in-loop .before .before .before .before .before .before in
+    omega (arith, in-loop .loop-test .taken, start .pre .0 .1)
 
 array-read-put-offer : tie.Need-array-read-put-offer Inv-loop μ-loop
 array-read-put-offer c = search needs
@@ -70,31 +80,47 @@ array-read-put-offer-2 c = search needs
 
 put-offer-requires : tie.Need-put-offer-requires Inv-loop μ-loop
 put-offer-requires c κs =
-    let s = c .before .before .before .before .before .before .before .before .before .before .before .before .before .before in
-    let loop = c .before .before .before .before .before .before .before .before .before .loop in
-    let below = c .before .before .before .before .before .before .before .before .loop-test .taken in
-    let read = c .before .before .before .before .before .before .before .arrival in
-    let answer = told-as (c .before) in
+    let at-told-as = c .before in
+    let after-arrival = at-told-as .before .before .before .before .before .before in
+    let in-loop = after-arrival .before in
+    let at-loop = in-loop .before in
+    let s = at-loop .before .before .before .before .before in
+    let loop = at-loop .loop in
+    let below = in-loop .loop-test .taken in
+    let read = after-arrival .arrival in
+    let answer = told-as at-told-as in
     offer-room (s .args .numbers .now) (s .args .due .now) (s .args .from) (loop .i) _ (read .ensures) below (s .pre .1) (loop .inv .3)
     _ _ _ (omega arith) (told-number _ answer) (told-field _ answer 0)
 
 add-i : tie.Need-add-i Inv-loop μ-loop
-add-i c = omega (arith, c .before .before .before .before .before .before .before .before .before .before .before .loop-test .taken, c .before .before .before .before .before .before .before .before .before .before .before .before .before .before .before .before .before .pre .0 .1)
+add-i c =
+    let in-loop = c .before .before .before .before .before .before .before .before .before .before .before in
+    let start = in-loop .before .before .before .before .before .before in
+    omega (arith, in-loop .loop-test .taken, start .pre .0 .1)
 
 loop-less : tie.Need-loop-less Inv-loop μ-loop
-loop-less c = omega (arith, c .before .before .before .before .before .before .before .before .before .before .before .loop-test .taken)
+loop-less c =
+    let in-loop = c .before .before .before .before .before .before .before .before .before .before .before in
+    omega (arith, in-loop .loop-test .taken)
 
 loop-again : tie.Need-loop-again Inv-loop μ-loop
 loop-again c =
-    let s = c .before .before .before .before .before .before .before .before .before .before .before .before .before .before .before .before .before in
-    let loop = c .before .before .before .before .before .before .before .before .before .before .before .before .loop in
+    let after-put-offer = c .before .before in
+    let at-told-as = after-put-offer .before .before in
+    let after-offer-sound = at-told-as .before .before .before in
+    let after-number-of = after-offer-sound .before in
+    let after-arrival = after-number-of .before .before in
+    let in-loop = after-arrival .before in
+    let at-loop = in-loop .before in
+    let s = at-loop .before .before .before .before .before in
+    let loop = at-loop .loop in
     let i = loop .inv in
-    let below = c .before .before .before .before .before .before .before .before .before .before .before .loop-test .taken in
-    let read = c .before .before .before .before .before .before .before .before .before .before .arrival in
-    let number = c .before .before .before .before .before .before .before .before .number-of in
-    let offer = c .before .before .before .before .before .before .before .offer-sound in
-    let answer = told-as (c .before .before .before .before) in
-    let line = c .before .before .put-offer in
+    let below = in-loop .loop-test .taken in
+    let read = after-arrival .arrival in
+    let number = after-number-of .number-of in
+    let offer = after-offer-sound .offer-sound in
+    let answer = told-as at-told-as in
+    let line = after-put-offer .put-offer in
     let box = contents (loop .ws) in
     let units = read .result .units in
     let left =

@@ -28,10 +28,14 @@ shared-slice-read-result c = search needs
 
 returns-3 : tie.Need-returns-3
 returns-3 c =
-    let numbers = c .before .before .before .before .before .args .numbers .now in
-    let e = c .before .before .before .wide .ensures .0 in
+    let at-if2 = c .before in
+    let at-if1 = at-if2 .before in
+    let after-wide = at-if1 .before in
+    let start = after-wide .before .before in
+    let numbers = start .args .numbers .now in
+    let e = after-wide .wide .ensures .0 in
     ap (λ k. getD numbers (k - 1) 0) e ∙
-    number-there numbers (c .before .before .before .before .before .args .place) (omega (arith, e, c .before .before .if1 .left)) (omega (arith, e, c .before .if2 .left))
+    number-there numbers (start .args .place) (omega (arith, e, at-if1 .if1 .left)) (omega (arith, e, at-if2 .if2 .left))
 
 pub number-of-spec : {M : Type 1} → statement M
 number-of-spec =

@@ -41,7 +41,9 @@ loop-less c = omega (arith, c .before .before .loop-test .taken)
 
 loop-again : tie.Need-loop-again Inv-loop μ-loop
 loop-again c =
-    (omega (arith, c .before .before .loop-test .taken), passed _ _ _ (c .before .before .before .loop .inv .1) (c .before .before .loop-test .taken) (c .if1 .left))
+    let in-loop = c .before .before in
+    let at-loop = in-loop .before in
+    (omega (arith, in-loop .loop-test .taken), passed _ _ _ (at-loop .loop .inv .1) (in-loop .loop-test .taken) (c .if1 .left))
 
 returns-2 : tie.Need-returns-2 Inv-loop μ-loop
 returns-2 c =

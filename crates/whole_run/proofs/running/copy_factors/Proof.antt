@@ -36,14 +36,23 @@ loop-less c = simp length-set (omega (arith, c .before .loop-test .taken))
 
 loop-again : tie.Need-loop-again Inv-loop μ-loop
 loop-again c =
-    (simp length-set (omega (arith, c .before .loop-test .taken)), simp length-set (omega (arith, c .before .before .loop .inv .1)), factor-on _ _ _ _ (c .before .loop-test .taken) (c .factor .ensures) (c .before .before .loop .inv .2))
+    let in-loop = c .before in
+    let at-loop = in-loop .before in (
+      simp length-set (omega (arith, in-loop .loop-test .taken)),
+      simp length-set (omega (arith, at-loop .loop .inv .1)),
+      factor-on _ _ _
+          _ (in-loop .loop-test .taken) (c .factor .ensures) (at-loop .loop .inv .2),
+    )
 
 same-length : tie.Need-same-length Inv-loop μ-loop
 same-length c = search needs
 
 returns : tie.Need-returns Inv-loop μ-loop
 returns c =
-    factors-end _ _ (c .before .before .before .before .args .factors .now) _ (omega (arith, c .before .loop .inv .0, c .loop-test .left)) (c .before .loop .inv .1) (c .before .loop .inv .2)
+    let at-loop = c .before in
+    let start = at-loop .before .before .before in
+    factors-end _ _ (start .args .factors .now) _ (omega (arith, at-loop .loop .inv .0, c .loop-test .left)) (at-loop .loop .inv .1)
+    (at-loop .loop .inv .2)
 
 pub copy-factors-spec : {M : Type 1} → statement M
 copy-factors-spec =

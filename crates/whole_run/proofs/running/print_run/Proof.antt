@@ -28,7 +28,9 @@ number-of-requires : tie.Need-number-of-requires
 number-of-requires c κs = search needs
 
 -- The whole text is the line with the refusal's number.
-refused-text : (c : tie.After-number-of) → runText (c .before .before .before .before .before .before .before .before .args .plan .now) ≡ lineText (refusedLine (c .number-of .result))
+refused-text : (c : tie.After-number-of)
+    → runText (c .before .before .before .before .before .before .before .before .args .plan .now) ≡
+    lineText (refusedLine (c .number-of .result))
 refused-text c =
     refused-by-reading _ _ (c .before .before .before .before .before .read .ensures) _ (c .before .before .before .r2 .given .1) ∙
     ap (λ n. lineText (refusedLine n)) (sym (c .number-of .ensures))
@@ -49,9 +51,12 @@ same-length-2 c = search needs
 
 returns-2 : tie.Need-returns-2
 returns-2 c =
-    let a = c .before .before .before .before .before .before .before .before .before .before .before .args in
-    let put = c .before .before .put-refused in
-    subst (λ l. Put (a .out .now) (put .last .0) 0 l (put .result)) (sym (refused-text (c .before .before .before))) (put .ensures)
+    let after-put-refused = c .before .before in
+    let at-refused-text = after-put-refused .before in
+    let start = at-refused-text .before .before .before .before .before .before .before .before in
+    let a = start .args in
+    let put = after-put-refused .put-refused in
+    subst (λ l. Put (a .out .now) (put .last .0) 0 l (put .result)) (sym (refused-text at-refused-text)) (put .ensures)
 
 pub print-run-spec : {M : Type 1} → statement M
 print-run-spec =

@@ -33,9 +33,13 @@ same-length c = search needs
 
 returns : tie.Need-returns
 returns c =
-    let a = c .before .before .before .before .before .before .before .before .before .before .args in
-    let put = c .before .before .put-depart in
-    let line = departed-line _ _ _ _ _ _ _ (c .before .before .before .before .before .before .answer .given .1) (c .before .before .before .place-of .ensures) in
+    let after-put-depart = c .before .before in
+    let after-place-of = after-put-depart .before in
+    let after-answer = after-place-of .before .before .before in
+    let start = after-answer .before .before .before .before in
+    let a = start .args in
+    let put = after-put-depart .put-depart in
+    let line = departed-line _ _ _ _ _ _ _ (after-answer .answer .given .1) (after-place-of .place-of .ensures) in
     subst (λ l. Put (a .out .now) (put .last .0) (a .at) l (put .result)) (sym line) (put .ensures)
 
 returns-2 : tie.Need-returns-2

@@ -16,11 +16,13 @@ stretch-requires c κs = search needs
 
 offer-all-requires : tie.Need-offer-all-requires
 offer-all-requires c κs =
-    let s = c .before .before .before .before .before .before .before .before .before in
+    let after-stretch = c .before .before in
+    let after-counter = after-stretch .before in
+    let s = after-counter .before .before .before .before .before .before in
     let a = s .args in
     let p = s .pre .0 in
-    let stretch = c .before .before .stretch in
-    let counter = c .before .before .before .counter in
+    let stretch = after-stretch .stretch in
+    let counter = after-counter .counter in
     let few =
     due-few (a .numbers .now) (a .table .now) (contents (a .ws .now)) (a .passed) (p .1) (p .2) (stretch .result .now) (counter .result)
     (stretch .ensures) (counter .ensures) in
@@ -35,13 +37,17 @@ step-sound-requires c κs = search needs
 
 print-stepped-requires : tie.Need-print-stepped-requires
 print-stepped-requires c κs =
-    let s = c .before .before .before .before .before .before .before .before .before .before .before .before .before .before .before .before .before .before .before in
+    let after-step-sound = c .before .before .before in
+    let after-offer-all = after-step-sound .before .before .before .before .before .before in
+    let after-stretch = after-offer-all .before .before .before in
+    let after-counter = after-stretch .before in
+    let s = after-counter .before .before .before .before .before .before in
     let a = s .args in
     let p = s .pre .0 in
-    let stretch = c .before .before .before .before .before .before .before .before .before .before .before .before .stretch in
-    let counter = c .before .before .before .before .before .before .before .before .before .before .before .before .before .counter in
-    let offers = c .before .before .before .before .before .before .before .before .before .offer-all in
-    let step = c .before .before .before .step-sound in
+    let stretch = after-stretch .stretch in
+    let counter = after-counter .counter in
+    let offers = after-offer-all .offer-all in
+    let step = after-step-sound .step-sound in
     let room =
     step-room (a .numbers .now) (a .table .now) (contents (a .ws .now)) (a .passed) (p .1) (p .2) (stretch .result .now) (counter .result)
     (stretch .ensures) (counter .ensures)
@@ -53,11 +59,14 @@ tell-stepped-requires c κs = search needs
 
 add-t26 : tie.Need-add-t26
 add-t26 c =
-    let s = c .before .before .before .before .before .before .before .before .before .before .before .before .before .before .before .before .before .before .before .before .before .before .before in
+    let after-stretch = c .before .before .before .before .before .before .before .before .before .before .before .before .before .before
+    .before .before in
+    let after-counter = after-stretch .before in
+    let s = after-counter .before .before .before .before .before .before in
     let a = s .args in
     let p = s .pre .0 in
-    let stretch = c .before .before .before .before .before .before .before .before .before .before .before .before .before .before .before .before .stretch in
-    let counter = c .before .before .before .before .before .before .before .before .before .before .before .before .before .before .before .before .before .counter in
+    let stretch = after-stretch .stretch in
+    let counter = after-counter .counter in
     let few =
     due-few (a .numbers .now) (a .table .now) (contents (a .ws .now)) (a .passed) (p .1) (p .2) (stretch .result .now) (counter .result)
     (stretch .ensures) (counter .ensures) in
@@ -77,18 +86,24 @@ same-length-2 c = search needs
 
 returns : tie.Need-returns
 returns c =
-    let s = c .before .before .before .before .before .before .before .before .before .before .before .before .before .before .before .before .before .before .before .before .before .before .before .before in
+    let after-tell-stepped = c .before in
+    let after-print-stepped = after-tell-stepped .before .before .before in
+    let after-step-sound = after-print-stepped .before .before .before .before in
+    let after-offer-all = after-step-sound .before .before .before .before .before .before in
+    let after-stretch = after-offer-all .before .before .before in
+    let after-counter = after-stretch .before in
+    let s = after-counter .before .before .before .before .before .before in
     let a = s .args in
     let p = s .pre .0 in
-    let stretch = c .before .before .before .before .before .before .before .before .before .before .before .before .before .before .before .before .before .stretch in
-    let counter = c .before .before .before .before .before .before .before .before .before .before .before .before .before .before .before .before .before .before .counter in
-    let offers = c .before .before .before .before .before .before .before .before .before .before .before .before .before .before .offer-all in
-    let step = c .before .before .before .before .before .before .before .before .step-sound in
-    let told = c .before .tell-stepped in
+    let stretch = after-stretch .stretch in
+    let counter = after-counter .counter in
+    let offers = after-offer-all .offer-all in
+    let step = after-step-sound .step-sound in
+    let told = after-tell-stepped .tell-stepped in
     slot-runs (a .numbers .now) (a .table .now) (contents (a .ws .now)) (a .passed) (p .1) (p .2) (stretch .result .now) (counter .result)
     (stretch .ensures) (counter .ensures)
     (a .out .now) (a .start) (s .pre .1) (offers .ensures) (step .result) (step .ensures .0) _ (c .departed-by .result)
-    (step .ensures .1) (c .before .before .before .before .print-stepped .ensures) (told-number _ (told .ensures)) (c .departed-by .ensures)
+    (step .ensures .1) (after-print-stepped .print-stepped .ensures) (told-number _ (told .ensures)) (c .departed-by .ensures)
 
 pub run-slot-spec : {M : Type 1} → statement M
 run-slot-spec =

@@ -7,7 +7,8 @@ use Rattle.meaning.specs.Rest.{potential}
 use Rattle.words.specs.Contents.{contents}
 use Rattle.words.proofs.Counts.{sound-fitting}
 use Rattle.whole_run.specs.Parts.{arrivalsPlaced}
-use Rattle.whole_run.proofs.Going.{Going, going-start, going-on, going-later, departed-fits, falls, slot-room, stop-room, stop-put, end-room, end-put}
+use Rattle.whole_run.proofs.Going.{Going, going-start, going-on, going-later, departed-fits, falls, slot-room, stop-room, stop-put}
+use Rattle.whole_run.proofs.Going.{end-room, end-put}
 use Rattle.whole_run.proofs.slots.run_slots.Statement.{statement}
 use Rattle.whole_run.proofs.slots.run_slots.Tie as tie
 
@@ -29,55 +30,111 @@ is-finished-requires c κs =
 
 run-slot-requires : tie.Need-run-slot-requires Inv-loop μ-loop
 run-slot-requires c κs =
-    let s = c .before .before .before .before .before .before .before .before .before .before in
-    let g = c .before .before .before .before .before .loop .inv .2 in
-    let f = c .before .before .before .is-finished in
-    ((g .still-sound, g .walked, s .pre .0 .2, s .pre .0 .3), slot-room (s .pre .1) g (sym (f .ensures) ∙ not-true (f .result) (c .before .before .if1 .taken)))
+    let at-if1 = c .before .before in
+    let after-is-finished = at-if1 .before in
+    let at-loop = after-is-finished .before .before in
+    let s = at-loop .before .before .before .before .before in
+    let g = at-loop .loop .inv .2 in
+    let f = after-is-finished .is-finished in (
+      (g .still-sound, g .walked, s .pre .0 .2, s .pre .0 .3),
+      slot-room (s .pre .1) g
+          (sym (f .ensures) ∙ not-true (f .result) (at-if1 .if1 .taken)),
+    )
 
 put-stop-requires : tie.Need-put-stop-requires Inv-loop μ-loop
 put-stop-requires c κs =
-    let f = c .before .before .before .before .before .before .before .before .before .before .before .is-finished in
-    stop-room (c .before .before .before .before .before .before .before .before .before .before .before .before .before .before .before .before .before .before .pre .1) (c .before .before .before .before .before .before .before .before .before .before .before .before .before .loop .inv .2) (sym (f .ensures) ∙ not-true (f .result) (c .before .before .before .before .before .before .before .before .before .before .if1 .taken)) (c .before .before .before .before .before .before .before .run-slot .ensures) (c .before .if2 .taken)
+    let at-if2 = c .before in
+    let after-run-slot = at-if2 .before .before .before .before .before .before in
+    let at-if1 = after-run-slot .before .before .before in
+    let after-is-finished = at-if1 .before in
+    let at-loop = after-is-finished .before .before in
+    let start = at-loop .before .before .before .before .before in
+    let f = after-is-finished .is-finished in
+    stop-room (start .pre .1) (at-loop .loop .inv .2) (sym (f .ensures) ∙ not-true (f .result) (at-if1 .if1 .taken))
+    (after-run-slot .run-slot .ensures) (at-if2 .if2 .taken)
 
 same-length : tie.Need-same-length Inv-loop μ-loop
 same-length c =
-    omega (arith, c .before .before .before .before .before .before .before .before .before .before .run-slot .kept .0, c .before .before .before .before .before .before .before .before .before .before .before .before .before .before .before .before .loop .inv .0)
+    let after-run-slot = c .before .before .before .before .before .before .before .before .before .before in
+    let at-loop = after-run-slot .before .before .before .before .before .before in
+    omega (arith, after-run-slot .run-slot .kept .0, at-loop .loop .inv .0)
 
 same-length-2 : tie.Need-same-length-2 Inv-loop μ-loop
 same-length-2 c =
-    omega (arith, c .before .before .put-stop .kept .0, c .before .before .before .before .before .before .before .before .before .before .run-slot .kept .1, c .before .before .before .before .before .before .before .before .before .before .before .before .before .before .before .before .loop .inv .1)
+    let after-put-stop = c .before .before in
+    let after-run-slot = after-put-stop .before .before .before .before .before .before .before .before in
+    let at-loop = after-run-slot .before .before .before .before .before .before in
+    omega (arith, after-put-stop .put-stop .kept .0, after-run-slot .run-slot .kept .1, at-loop .loop .inv .1)
 
 returns : tie.Need-returns Inv-loop μ-loop
 returns c =
-    let f = c .before .before .before .before .before .before .before .before .before .before .before .before .before .before .is-finished in
-    stop-put (c .before .before .before .before .before .before .before .before .before .before .before .before .before .before .before .before .before .before .before .before .before .pre .1) (c .before .before .before .before .before .before .before .before .before .before .before .before .before .before .before .before .loop .inv .2) (sym (f .ensures) ∙ not-true (f .result) (c .before .before .before .before .before .before .before .before .before .before .before .before .before .if1 .taken)) (c .before .before .before .before .before .before .before .before .before .before .run-slot .ensures) (c .before .before .before .before .if2 .taken) (c .before .before .put-stop .ensures)
+    let after-put-stop = c .before .before in
+    let at-if2 = after-put-stop .before .before in
+    let after-run-slot = at-if2 .before .before .before .before .before .before in
+    let at-if1 = after-run-slot .before .before .before in
+    let after-is-finished = at-if1 .before in
+    let at-loop = after-is-finished .before .before in
+    let start = at-loop .before .before .before .before .before in
+    let f = after-is-finished .is-finished in
+    stop-put (start .pre .1) (at-loop .loop .inv .2) (sym (f .ensures) ∙ not-true (f .result) (at-if1 .if1 .taken))
+    (after-run-slot .run-slot .ensures) (at-if2 .if2 .taken) (after-put-stop .put-stop .ensures)
 
 add-departed : tie.Need-add-departed Inv-loop μ-loop
 add-departed c =
-    let f = c .before .before .before .before .before .before .before .before .before .before .before .is-finished in
-    let d = departed-fits (c .before .before .before .before .before .before .before .before .before .before .before .before .before .before .before .before .before .before .pre .1) (c .before .before .before .before .before .before .before .before .before .before .before .before .before .loop .inv .2) (sym (f .ensures) ∙ not-true (f .result) (c .before .before .before .before .before .before .before .before .before .before .if1 .taken)) (c .before .before .before .before .before .before .before .run-slot .ensures) (c .before .if2 .left) in
+    let at-if2 = c .before in
+    let after-run-slot = at-if2 .before .before .before .before .before .before in
+    let at-if1 = after-run-slot .before .before .before in
+    let after-is-finished = at-if1 .before in
+    let at-loop = after-is-finished .before .before in
+    let start = at-loop .before .before .before .before .before in
+    let f = after-is-finished .is-finished in
+    let d = departed-fits (start .pre .1) (at-loop .loop .inv .2) (sym (f .ensures) ∙ not-true (f .result) (at-if1 .if1 .taken))
+    (after-run-slot .run-slot .ensures) (at-if2 .if2 .left) in
     omega (arith, d)
 
 pass-idle-requires : tie.Need-pass-idle-requires Inv-loop μ-loop
 pass-idle-requires c κs =
-    let f = c .before .before .before .before .before .before .before .before .before .before .before .before .is-finished in
-    let g = going-on (c .before .before .before .before .before .before .before .before .before .before .before .before .before .before .before .before .before .before .before .pre .1) (c .before .before .before .before .before .before .before .before .before .before .before .before .before .before .loop .inv .2) (sym (f .ensures) ∙ not-true (f .result) (c .before .before .before .before .before .before .before .before .before .before .before .if1 .taken)) (c .before .before .before .before .before .before .before .before .run-slot .ensures) (c .before .before .if2 .left) in
-    (g .still-sound, g .walked, c .before .before .before .before .before .before .before .before .before .before .before .before .before .before .before .before .before .before .before .pre .0 .2)
+    let at-if2 = c .before .before in
+    let after-run-slot = at-if2 .before .before .before .before .before .before in
+    let at-if1 = after-run-slot .before .before .before in
+    let after-is-finished = at-if1 .before in
+    let at-loop = after-is-finished .before .before in
+    let start = at-loop .before .before .before .before .before in
+    let f = after-is-finished .is-finished in
+    let g = going-on (start .pre .1) (at-loop .loop .inv .2) (sym (f .ensures) ∙ not-true (f .result) (at-if1 .if1 .taken))
+    (after-run-slot .run-slot .ensures) (at-if2 .if2 .left) in
+    (g .still-sound, g .walked, start .pre .0 .2)
 
 loop-less : tie.Need-loop-less Inv-loop μ-loop
 loop-less c =
-    let f = c .before .before .before .before .before .before .before .before .before .before .before .before .before .before .before .is-finished in
-    let less = falls (c .before .before .before .before .before .before .before .before .before .before .before .before .before .before .before .before .before .before .before .before .before .before .pre .1) (c .before .before .before .before .before .before .before .before .before .before .before .before .before .before .before .before .before .loop .inv .2) (sym (f .ensures) ∙ not-true (f .result) (c .before .before .before .before .before .before .before .before .before .before .before .before .before .before .if1 .taken)) (c .before .before .before .before .before .before .before .before .before .before .before .run-slot .ensures) (c .before .before .before .before .before .if2 .left) in
-    omega (arith, less, c .before .before .pass-idle .ensures .no-more)
+    let after-pass-idle = c .before .before in
+    let at-if2 = after-pass-idle .before .before .before in
+    let after-run-slot = at-if2 .before .before .before .before .before .before in
+    let at-if1 = after-run-slot .before .before .before in
+    let after-is-finished = at-if1 .before in
+    let at-loop = after-is-finished .before .before in
+    let start = at-loop .before .before .before .before .before in
+    let f = after-is-finished .is-finished in
+    let less = falls (start .pre .1) (at-loop .loop .inv .2) (sym (f .ensures) ∙ not-true (f .result) (at-if1 .if1 .taken))
+    (after-run-slot .run-slot .ensures) (at-if2 .if2 .left) in
+    omega (arith, less, after-pass-idle .pass-idle .ensures .no-more)
 
 loop-again : tie.Need-loop-again Inv-loop μ-loop
 loop-again c =
-    let f = c .before .before .before .before .before .before .before .before .before .before .before .before .before .before .before .is-finished in
-    let i = c .before .before .before .before .before .before .before .before .before .before .before .before .before .before .before .before .before .loop .inv in
-    let idle = c .before .before .pass-idle in (
-      omega (arith, idle .kept .0, c .before .before .before .before .before .before .before .before .before .before .before .run-slot .kept .0, i .0),
-      omega (arith, c .before .before .before .before .before .before .before .before .before .before .before .run-slot .kept .1, i .1),
-      going-later (going-on (c .before .before .before .before .before .before .before .before .before .before .before .before .before .before .before .before .before .before .before .before .before .before .pre .1) (i .2) (sym (f .ensures) ∙ not-true (f .result) (c .before .before .before .before .before .before .before .before .before .before .before .before .before .before .if1 .taken)) (c .before .before .before .before .before .before .before .before .before .before .before .run-slot .ensures) (c .before .before .before .before .before .if2 .left)) (idle .ensures),
+    let after-pass-idle = c .before .before in
+    let at-if2 = after-pass-idle .before .before .before in
+    let after-run-slot = at-if2 .before .before .before .before .before .before in
+    let at-if1 = after-run-slot .before .before .before in
+    let after-is-finished = at-if1 .before in
+    let at-loop = after-is-finished .before .before in
+    let start = at-loop .before .before .before .before .before in
+    let f = after-is-finished .is-finished in
+    let i = at-loop .loop .inv in
+    let idle = after-pass-idle .pass-idle in (
+      omega (arith, idle .kept .0, after-run-slot .run-slot .kept .0, i .0),
+      omega (arith, after-run-slot .run-slot .kept .1, i .1),
+      going-later (going-on (start .pre .1) (i .2) (sym (f .ensures) ∙ not-true (f .result) (at-if1 .if1 .taken))
+          (after-run-slot .run-slot .ensures) (at-if2 .if2 .left)) (idle .ensures),
     )
 
 counter-requires : tie.Need-counter-requires Inv-loop μ-loop
@@ -89,21 +146,38 @@ accepted-requires c κs =
 
 put-end-requires : tie.Need-put-end-requires Inv-loop μ-loop
 put-end-requires c κs =
-    let f = c .before .before .before .before .before .before .is-finished in
-    end-room (c .before .before .before .before .before .before .before .before .before .before .before .before .before .pre .1) (c .before .before .before .before .before .before .before .before .loop .inv .2) (sym (f .ensures) ∙ not-false (f .result) (c .before .before .before .before .before .if1 .left)) _ _ (c .before .before .counter .ensures) (c .accepted .ensures)
+    let after-counter = c .before .before in
+    let at-if1 = after-counter .before .before .before in
+    let after-is-finished = at-if1 .before in
+    let at-loop = after-is-finished .before .before in
+    let start = at-loop .before .before .before .before .before in
+    let f = after-is-finished .is-finished in
+    end-room (start .pre .1) (at-loop .loop .inv .2) (sym (f .ensures) ∙ not-false (f .result) (at-if1 .if1 .left)) _ _
+    (after-counter .counter .ensures) (c .accepted .ensures)
 
 same-length-3 : tie.Need-same-length-3 Inv-loop μ-loop
 same-length-3 c =
-    c .before .before .before .before .before .before .before .before .before .before .before .loop .inv .0
+    let at-loop = c .before .before .before .before .before .before .before .before .before .before .before in
+    at-loop .loop .inv .0
 
 same-length-4 : tie.Need-same-length-4 Inv-loop μ-loop
 same-length-4 c =
-    omega (arith, c .before .before .put-end .kept .0, c .before .before .before .before .before .before .before .before .before .before .before .loop .inv .1)
+    let after-put-end = c .before .before in
+    let at-loop = after-put-end .before .before .before .before .before .before .before .before .before in
+    omega (arith, after-put-end .put-end .kept .0, at-loop .loop .inv .1)
 
 returns-2 : tie.Need-returns-2 Inv-loop μ-loop
 returns-2 c =
-    let f = c .before .before .before .before .before .before .before .before .before .is-finished in
-    end-put (c .before .before .before .before .before .before .before .before .before .before .before .before .before .before .before .before .pre .1) (c .before .before .before .before .before .before .before .before .before .before .before .loop .inv .2) (sym (f .ensures) ∙ not-false (f .result) (c .before .before .before .before .before .before .before .before .if1 .left)) _ _ (c .before .before .before .before .before .counter .ensures) (c .before .before .before .accepted .ensures) (c .before .before .put-end .ensures)
+    let after-put-end = c .before .before in
+    let after-accepted = after-put-end .before in
+    let after-counter = after-accepted .before .before in
+    let at-if1 = after-counter .before .before .before in
+    let after-is-finished = at-if1 .before in
+    let at-loop = after-is-finished .before .before in
+    let start = at-loop .before .before .before .before .before in
+    let f = after-is-finished .is-finished in
+    end-put (start .pre .1) (at-loop .loop .inv .2) (sym (f .ensures) ∙ not-false (f .result) (at-if1 .if1 .left)) _ _
+    (after-counter .counter .ensures) (after-accepted .accepted .ensures) (after-put-end .put-end .ensures)
 
 pub run-slots-spec : {M : Type 1} → statement M
 run-slots-spec =
