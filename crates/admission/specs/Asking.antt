@@ -37,7 +37,7 @@ pub record Small (c : Connection) : Type 0 where
 unfoldable pub wayTerm : Settings → ℕ → Connection → ℕ
 wayTerm set t c = cond (twelveRange set t) (cond (ltb (t + set .interval) (bound set (c .class))) (c .longest) 0) 0
 
--- What was found.
+-- The search of document 01 that this finding means.
 abbrev pub searchOf : Found → Search
 searchOf (Found.FailsAt t) = failsAt t
 searchOf Found.Holds = holds

@@ -21,11 +21,11 @@ use Rattle.meaning.proofs.RunFits.{run-fits}
 use Rattle.whole_run.specs.Printing.{printingAnswer}
 use Rattle.answers.specs.Fitting.{FitWords}
 
--- No field.
+-- An empty list of fields fits its words.
 none : FitWords []
 none = record { fits = λ i. omega arith }
 
--- One field more.
+-- A field that fits a word, before others that do, fits with them.
 more : {n : ℕ} {l : List ℕ} → n < 2 ^ 32 → FitWords l → FitWords (n ∷ l)
 more {n} {l} h f = record { fits = at }
   where

@@ -23,15 +23,15 @@ tells meaning e t = (t .0 ∙ ap (λ a. meaning a .number) e, t .1 ∙ ap (λ a.
 abbrev one : List ℕ → List ℕ
 one w = getD w 1 0 ∷ []
 
--- Two words after it.
+-- The two words after the first of a list.
 abbrev two : List ℕ → List ℕ
 two w = getD w 1 0 ∷ getD w 2 0 ∷ []
 
--- Five.
+-- The five words after the first of a list.
 abbrev five : List ℕ → List ℕ
 five w = getD w 1 0 ∷ getD w 2 0 ∷ getD w 3 0 ∷ getD w 4 0 ∷ getD w 5 0 ∷ []
 
--- Eight.
+-- The eight words after the first of a list.
 abbrev eight : List ℕ → List ℕ
 eight w =
     getD w 1 0 ∷ getD w 2 0 ∷ getD w 3 0 ∷ getD w 4 0 ∷ getD w 5 0 ∷ getD w 6 0 ∷ getD w 7 0 ∷ getD w 8 0 ∷ []

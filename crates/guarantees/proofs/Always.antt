@@ -69,7 +69,7 @@ sound-after box (admit c) s = admission-keeps-sound box c s
 sound-after box (offer n units) s = offer-keeps-sound box n units s
 sound-after box step s = step-keeps-sound box s
 
--- So does a run.
+-- A run on a sound box leaves a sound one.
 pub sound-along : (box : Box) (calls : List Call) → sound box ≡ true → sound (boxAfter box calls) ≡ true
 unfolding boxAfter
 sound-along box [] s = s

@@ -54,7 +54,7 @@ module _ (box : Box) (H : List Packet) (k : Known box H) (conforming : KeepsEnve
     -- The printed test, at a T whose limits the packets ahead keep: with nothing in the way, with a packet in the way whose bound
     -- exceeds T + D, and with one whose bound does not and whose connection brings in nothing.
     module _ (T : ℕ) (limits : KeepsLimits box H q u T) (late : u + T < u + rest + arrivedSince q u H) where
-      -- (11) at T.
+      -- With nothing in the way, being so late contradicts (11) at T.
       pub none-in-the-way : rest ≡ 0 → ⊥
       unfolding sumAt term
       none-in-the-way e =
@@ -62,7 +62,7 @@ module _ (box : Box) (H : List Packet) (k : Known box H) (conforming : KeepsEnve
           let c = condition-facts _ _ T (k .conditions-hold T) .eleven-holds in
           omega arith
 
-      -- (12) at T.
+      -- With a packet in the way whose bound exceeds T + D, being so late contradicts (12) at T.
       pub far-in-the-way : (v : Packet) → List·Memᴰ v H → rest < v .units → bound (box .settings) 1 ≤ T
           → T + box .settings .interval < boundOf v → ⊥
       unfolding sumAt term

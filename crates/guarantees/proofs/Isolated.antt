@@ -138,7 +138,7 @@ module _ (n : ℕ) (h : 1 ≤ n) where
       let meter = charged-other box m units n (r .0) h ne in
       rw (says .5) (λ i. record { contracts = contracts i; meter = meter i })
 
-  -- Nor does a step.
+  -- A step does not change the view.
   view-step : (box : Box) (a : Stepped) → view n (afterStep box a) ≡ view n box
   unfolding view afterStep moved connections allowance
   view-step box Stepped.Idle = refl
@@ -165,7 +165,7 @@ module _ (n : ℕ) (h : 1 ≤ n) where
         let rest = i ∙ ap (λ v. replay (box .settings) n v (asked n es)) (v ∙ ap (viewOffered n (view n box) (box .counter)) a) in
         λ k. a k ∷ rest k
 
-    -- Any offer.
+    -- With any offer made first, the connection is told what the replay of its own calls gives.
     told-offer : (m units : ℕ) → isTen (toOffer (offerAnswer box m units)) ≡ false
         → After (view n (afterOffer box m units (offerAnswer box m units))) →
         answerTo n (offer m units) (toOffer (offerAnswer box m units)) ++ told n es ≡
@@ -182,7 +182,7 @@ module _ (n : ℕ) (h : 1 ≤ n) where
               (view-other box m units e (offerAnswer box m units) (offer-says box m units)))
         ]
 
-    -- Any call.
+    -- With any call made first, the connection is told what the replay of its own calls gives.
     told-call : (c : Call) → isTen (reply box c) ≡ false → After (view n (after box c)) →
         answerTo n c (reply box c) ++ told n es ≡ replay (box .settings) n (view n box) (askOf n (box .counter) c ++ asked n es)
     unfolding reply after

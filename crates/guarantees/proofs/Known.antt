@@ -47,7 +47,7 @@ nothing-holds : (set : Settings) → HoldsWithoutEnd set []
 unfolding sumAt inTheWay sumOf largestOf
 nothing-holds set t = condition-test set [] t (record { eleven-holds = omega arith; twelve-holds = λ a b. omega arith })
 
--- A new box.
+-- All this is known of a new box.
 pub known-new : (set : Settings) → settingsAllowed set ≡ true → Known (newBox set) []
 unfolding newBox connections waiting emptyQueues
 known-new set e =
@@ -66,7 +66,7 @@ on-link-more : {slot : ℕ} {H : List Packet} {p : Packet} {left : ℕ} (x : Pac
 on-link-more x o =
     record { accepted = Memᴰ·append-left (x ∷ []) (o .accepted); earlier = o .earlier; some-left = o .some-left; some-sent = o .some-sent }
 
--- A connection joins.
+-- All this is still known once a connection joins.
 known-joins : (box : Box) (H : List Packet) (c : Connection) (n : ℕ) → admissionAnswer box c ≡ Admitted.Taken n →
     (rows : List Standing) → map (λ s. s .asked) rows ≡ withNewcomer box c → Grows box (withStanding box rows) →
     Known box H → Known (withStanding box rows) H
@@ -107,7 +107,7 @@ new-packet-facts box n units s g =
       arrival-most = unfold afterOffer in omega arith;
     }
 
--- A packet is accepted.
+-- All this is still known once a packet is accepted.
 known-accepts : (box : Box) (H : List Packet) (n units : ℕ) → AcceptSays box n units →
     Grows box (accepting box n units) →
     Known box H → Known (accepting box n units) (H ++ (newPacket box n units ∷ []))
@@ -148,7 +148,7 @@ known-accepts box H n units s g k =
         let f = ap (λ (p : Packet). p .arrival) (List·Memᴰ·eq-of-singleton b) in
         omega arith
 
--- A step.
+-- All this is still known after a step.
 known-steps : (box : Box) (H : List Packet) → StepGoes box → Grows box (moved box) → Known box H → Known (moved box) H
 known-steps box H go g k =
     record {

@@ -20,7 +20,7 @@ unfoldable pub upTo : Box → Packet → Packet → Bool
 upTo box p x = ltb (rankIn box x) (rankIn box p) || eqb (rankIn box x) (rankIn box p) && leb (x .serial) (p .serial)
 
 module _ (box : Box) (p x : Packet) where
-  -- What the test says.
+  -- A packet that is up to p has a lower rank, or the same rank and no higher serial.
   pub up-to-facts : upTo box p x ≡ true → (rankIn box x < rankIn box p) ⊎ ((rankIn box x ≡ rankIn box p) × (x .serial ≤ p .serial))
   unfolding upTo
   up-to-facts e =
@@ -29,7 +29,7 @@ module _ (box : Box) (p x : Packet) where
       inr (eqb-true (rankIn box x) (rankIn box p) (b .0), leb-true (x .serial) (p .serial) (b .1)))
       (or-cases (ltb (rankIn box x) (rankIn box p)) (eqb (rankIn box x) (rankIn box p) && leb (x .serial) (p .serial)) e)
 
-  -- And back.
+  -- A packet with a lower rank than p, or the same rank and no higher serial, is up to p.
   pub up-to-test : (rankIn box x < rankIn box p) ⊎ ((rankIn box x ≡ rankIn box p) × (x .serial ≤ p .serial)) → upTo box p x ≡ true
   unfolding upTo
   up-to-test (inl l) = or-left _ _ (lt-ltb (rankIn box x) (rankIn box p) l)
@@ -98,6 +98,6 @@ earlier-interval D h x a l =
     let t = div-mul-le-self a D in
     omega arith
 
--- The interval of a slot.
+-- A slot lies in the interval of D slots that starts at floor(a/D) x D.
 pub interval-of : (D : ℕ) → 1 ≤ D → (a : ℕ) → (a / D * D ≤ a) × (a < a / D * D + D)
 interval-of D h a = (div-mul-le-self a D, lt-div-mul-add h)

@@ -50,7 +50,7 @@ meter-later {c} {a} {slots} at later h m =
       within-may = m .within-may;
     }
 
--- A fresh connection.
+-- The meter of a fresh connection has no packets.
 meter-fresh : (c : Connection) (at : ℕ) → Meter c (full c) [] at
 unfolding numberOf countIn sumOf
 meter-fresh c at = record { stands-for = full-means c at; descends = tt; within-may = λ x t. omega arith }

@@ -127,7 +127,7 @@ step-grows box =
       counter-more = omega arith;
     }
 
--- Every move does so.
+-- Every move makes the box grow in this way.
 pub move-grows : {box next : Box} {H H′ : List Packet} {G G′ : List Departure} → Move box H G next H′ G′ → Grows box next
 unfolding withStanding afterOffer moved
 move-grows refused =

@@ -43,7 +43,7 @@ due-same : (box next : Box) → Grows box next → (n arrival : ℕ) → 1 ≤ n
 unfolding dueBy
 due-same box next g n arrival h l = rw (g .connection-same n h l, g .settings-same)
 
--- A new box.
+-- In a new box nothing is late.
 pub on-time-new : (set : Settings) → OnTime (newBox set) []
 unfolding newBox waiting emptyQueues
 on-time-new set = record { in-box = λ p i. absurd (empty p i); departed = λ g m. absurd (List·Memᴰ·not-nil m) }

@@ -38,7 +38,7 @@ Once box H G = (f : ℕ → ℕ → ℕ → ℕ) → ofPackets f H ≡ ofPackets
 abbrev pub Numbered : Box → List Packet → Type 0
 Numbered box H = (n : ℕ) → timesAmong n H ≡ given (within 1 n (box .accepted)) 1
 
--- A new box.
+-- In a new box no packet is accepted, waits, is on the link or has departed.
 pub once-new : (set : Settings) → Once (newBox set) [] []
 unfolding newBox waiting emptyQueues ofPackets ofDepartures onLink sumOf
 once-new set f = rw empty-flatten
@@ -181,7 +181,7 @@ numbered-moves box next H H′ G G′ o (departs go p left e l) = unfold moved i
 abbrev pub Counted : Box → List Packet → Type 0
 Counted box H = map (λ p. p .serial) H ≡ countFrom 1 (box .accepted)
 
--- A new box.
+-- In a new box no serial is given.
 pub counted-new : (set : Settings) → Counted (newBox set) []
 unfolding newBox countFrom
 counted-new set = refl

@@ -67,7 +67,7 @@ in-order-last (g ∷ G) d e h =
           | no c ↦ or-left (not (eqb (g .connection) (d .connection))) (ltb (g .serial) (d .serial)) (ap not (ne-eqb _ _ c))
         ]
 
--- A new box.
+-- In a new box nothing is out of order.
 pub ordered-new : (set : Settings) → Ordered (newBox set) []
 unfolding newBox waiting emptyQueues inOrder
 ordered-new set =

@@ -40,7 +40,7 @@ AdmissionSays box c (Admitted.Taken n) =
     (rateHolds (box .settings) (withNewcomer box c) ≡ true) × (finiteSearch (box .settings) (withNewcomer box c) ≡ holds) ×
     (n ≡ suc (length (box .standing)))
 
--- It does say so.
+-- The answer to an admission says what it must.
 pub admission-says : (box : Box) (c : Connection) → AdmissionSays box c (admissionAnswer box c)
 unfolding admissionAnswer searchAnswer
 admission-says box c =
@@ -82,7 +82,7 @@ OfferSays box n units (Offered.Accepted serial) =
     (conforms (connection box n) (allowance box n) (box .counter) ≡ true) × (leb mostWaiting (length (waiting box)) ≡ false) ×
     (serial ≡ suc (box .accepted))
 
--- It does say so.
+-- The answer to an offer says what it must.
 pub offer-says : (box : Box) (n units : ℕ) → OfferSays box n units (offerAnswer box n units)
 unfolding offerAnswer
 offer-says box n units =
@@ -128,7 +128,7 @@ StepSays box (Stepped.Departed serial connection arrival departure) =
     StepGoes box × (p : Packet) × (units : ℕ) × (linkTaken (box .link) (box .queues) ≡ carries p units) × (leb units 1 ≡ true) ×
     (serial ≡ p .serial) × (connection ≡ p .connection) × (arrival ≡ p .arrival) × (departure ≡ suc (box .counter))
 
--- It does say so.
+-- The answer to a step says what it must.
 pub step-says : (box : Box) → StepSays box (stepAnswer box)
 unfolding stepAnswer sentAnswer
 step-says box =

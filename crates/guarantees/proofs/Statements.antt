@@ -43,7 +43,7 @@ marks-facts s c a serial connection arrival e =
     let q = and-eq-true-iff (eqb connection c) (eqb arrival a) .0 (p .1) in
     (eqb-true _ _ (p .0), eqb-true _ _ (q .0), eqb-true _ _ (q .1))
 
--- A packet has its own.
+-- A packet is marked by its own three numbers.
 marks-self : (s c a : ℕ) → marks s c a s c a ≡ true
 unfolding marks
 marks-self s c a =

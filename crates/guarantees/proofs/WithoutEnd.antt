@@ -58,7 +58,7 @@ condition-facts set cs t e =
     in-range true false p q e = absurd (true≢false (sym q))
     in-range false b p q e = absurd (true≢false (sym p))
 
--- And back.
+-- Where the facts of (11) and (12) hold at t, both conditions hold at t.
 pub condition-test : (set : Settings) (cs : List Connection) (t : ℕ) → ConditionFacts set cs t → conditionAt set cs t ≡ true
 unfolding conditionAt eleven twelve twelveRange
 condition-test set cs t f =

@@ -18,7 +18,7 @@ put-paste out at s = ap (λ l. take at out ++ l ++ drop (at + length s) out) (ta
 pub length-put : (out : List ℕ) (at : ℕ) (s : List ℕ) → Room out at s → length (putAt out at s) ≡ length out
 length-put out at s h = ap length (sym (put-paste out at s)) ∙ length-paste out at s (length s) h (omega arith)
 
--- Writing a byte puts it.
+-- Storing one byte puts it.
 pub put-one : (out : List ℕ) (at v : ℕ) → at < length out → set out at v ≡ putAt out at (v ∷ [])
 unfolding putAt
 put-one out at v h =
@@ -76,11 +76,11 @@ room-after {a} {b} {at} {next} {s} t p h =
 pub room-first : (a : List ℕ) (at : ℕ) (s t : List ℕ) → Room a at (s ++ t) → Room a at s
 room-first a at s t h = let l = length-append s t in omega arith
 
--- A put keeps the length.
+-- A buffer into which bytes that fit were put is as long as before.
 pub put-length : {a b : List ℕ} {at next : ℕ} {s : List ℕ} → Put a b at s next → Room a at s → length b ≡ length a
 put-length {a} {b} {at} {next} {s} p h = ap length (p .bytes) ∙ length-put a at s h
 
--- One byte more.
+-- A byte that is stored is put, and the text ends one byte on.
 pub put-byte : (out : List ℕ) (at v : ℕ) → Room out at (v ∷ []) → Put out (set out at v) at (v ∷ []) (at + 1)
 put-byte out at v h = record { bytes = put-one out at v (omega arith); place = refl }
 
@@ -91,7 +91,7 @@ module _ (out : List ℕ) (at n : ℕ) (room : Room out at (decimal n)) where
   unfolding digit
   small-room h = subst (λ l. Room out at l) (decimal-small n h) room
 
-  -- Its digit puts it.
+  -- Storing the digit of a number below ten puts the number.
   pub small-put : n < 10 → Put out (set out at (48 + n)) at (decimal n) (at + 1)
   unfolding digit
   small-put h = subst (λ l. Put out (set out at (48 + n)) at l (at + 1)) (sym (decimal-small n h)) (put-byte out at (48 + n) (small-room h))
@@ -105,7 +105,7 @@ module _ (out : List ℕ) (at n : ℕ) (room : Room out at (decimal n)) where
   unfolding digit
   large-room h = subst (λ l. Room out at l) (decimal-large n h) room
 
-  -- There is room for them.
+  -- There is room for the digits of a tenth of the number.
   pub tenth-room : 10 ≤ n → Room out at (decimal (n / 10))
   tenth-room h = room-first out at digits ((48 + n % 10) ∷ []) (large-room h)
 
@@ -114,7 +114,7 @@ module _ (out : List ℕ) (at n : ℕ) (room : Room out at (decimal n)) where
     pub last-room : last + 1 ≤ length after
     last-room = room-after ((48 + n % 10) ∷ []) p (large-room h)
 
-    -- The length is kept.
+    -- After the digits of a tenth the buffer is as long as before.
     pub large-length : length after ≡ length out
     large-length = put-length p (tenth-room h)
 

@@ -15,7 +15,7 @@ pub text-cons : (l : Line) (ls : List Line) → textOf (l ∷ ls) ≡ lineText l
 unfolding textOf flatten
 text-cons l ls = refl
 
--- The text of one line.
+-- The text of a list of one line is the text of that line.
 pub text-one : (l : Line) → textOf (l ∷ []) ≡ lineText l
 unfolding textOf flatten
 text-one l = append-nil (lineText l)
@@ -36,7 +36,7 @@ pub record Reached (before now : List ℕ) (start : ℕ) (whole rest : List ℕ)
   pub put : Put before now start done at
   pub joins : done ++ rest ≡ whole
 
--- Nothing is put.
+-- An empty text is put by doing nothing.
 pub put-none : (out : List ℕ) (at : ℕ) → Put out out at [] at
 put-none out at = record { bytes = sym (put-nothing out at); place = omega arith }
 
@@ -72,7 +72,7 @@ module _ {before now : List ℕ} {start : ℕ} {whole rest : List ℕ} {at : ℕ
     pub reached-length : length now ≡ length before
     reached-length = put-length (r .put) (room-first before start (r .done) rest room-joined)
 
-    -- the rest is put too
+    -- Once the rest is put too, the whole text is put.
     pub reached-last : {out : List ℕ} {next : ℕ} → Put now out at rest next → Put before out start whole next
     reached-last {out} {next} p = subst (λ l. Put before out start l next) (r .joins) (then (r .put) p room-joined)
 
@@ -87,7 +87,7 @@ module _ {before now : List ℕ} {start : ℕ} {whole : List ℕ} (s rest : List
     pub reached-next : Room now at s
     reached-next = room-first now at s rest (reached-room room r)
 
-    -- the next piece is put
+    -- Once the next piece is put, the text is reached as far as its end.
     pub reached-on : {out : List ℕ} {next : ℕ} → Put now out at s next → Reached before out start whole rest next
     reached-on p =
         record {

@@ -153,7 +153,7 @@ holdsOf box (fitsAt c accepted slot answer ∷ rest) = Bool·beq (fits (mayHave 
 unfoldable pub caseHolds : Case → Bool
 caseHolds c = holdsOf (newBox (c .opening)) (c .says)
 
--- P1 to P10, computed.
+-- Every case of P1 to P10 holds when it is computed.
 all-hold : every caseHolds cases ≡ true
 unfolding definitions cases steps atSlot answers holdsOf caseHolds
 all-hold = refl

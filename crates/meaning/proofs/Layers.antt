@@ -35,7 +35,7 @@ module _ {A : Type 0} where
   abbrev pub From : List (Ranked A) → ℕ → Type 0
   From w r = (p : Ranked A) → List·Memᴰ p w → r ≤ p .rankIs
 
-  -- Joining the tail.
+  -- A packet that may stand before a list stands as well before the first part of it.
   cond-cons : (b : Bool) (x : A) (l m t : List A) → l ≡ m ++ t → cond b (x ∷ l) l ≡ cond b (x ∷ m) m ++ t
   cond-cons true x l m t e = ap (λ k. x ∷ k) e
   cond-cons false x l m t e = e
@@ -78,7 +78,7 @@ module _ {A : Type 0} where
       let b = layers-append w p k (suc r) n (omega arith) (omega arith) in
       cc
 
-  -- The turn.
+  -- One queue more at the end is the queue of the next rank.
   layers-last : (w : List (Ranked A)) (r n : ℕ) → layers w r (suc n) ≡ layers w r n ++ (only (r + n) w ∷ [])
   unfolding layers
   layers-last w r zero = ap (λ k. only k w ∷ []) (omega arith)
@@ -131,7 +131,7 @@ module _ {A : Type 0} where
       go true f h = absurd (mathlib.Core.Bool.true≢false f)
       go false f h = h f
 
-  -- The choice.
+  -- The packet that goes first has at least the lowest rank that can wait.
   lowest-from : (w : List (Ranked A)) (r : ℕ) → From w r → (q : Ranked A) → lowestRank w ≡ some q → r ≤ q .rankIs
   unfolding lowestRank earlier
   lowest-from [] r h q e = absurd (never e)

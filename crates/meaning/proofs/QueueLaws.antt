@@ -14,7 +14,7 @@ use Rattle.laws.specs.Tests.{every, every-at, every-all, every-append}
 use Rattle.meaning.specs.Queues.{joinTail, turned, lowestHead, withoutLowestHead}
 
 module _ {A : Type 0} where
-  -- Joining a tail.
+  -- A packet that waits after joining a tail is the new one or waited before.
   pub joined-member : (k : ℕ) (p : A) (qs : List (List A)) {x : A} → List·Memᴰ x (flatten (joinTail k p qs))
       → (x ≡ p) ⊎ List·Memᴰ x (flatten qs)
   unfolding joinTail flatten
@@ -45,7 +45,7 @@ module _ {A : Type 0} where
   joined-count zero p (q ∷ qs) = refl
   joined-count (suc k) p (q ∷ qs) = ap suc (joined-count k p qs)
 
-  -- Taking the lowest head.
+  -- The lowest head is one of the packets that wait.
   pub lowest-member : (qs : List (List A)) (p : A) → lowestHead qs ≡ some p → List·Memᴰ p (flatten qs)
   unfolding lowestHead flatten
   lowest-member [] p e = absurd (let z : _≡_ {A = ℕ} 0 1 = cc in omega arith)
@@ -88,7 +88,7 @@ module _ {A : Type 0} where
   nothing-taken ([] ∷ qs) e = ap (λ (l : List (List A)). [] ∷ l) (nothing-taken qs e)
   nothing-taken ((x ∷ q) ∷ qs) e = absurd (let z : _≡_ {A = ℕ} 0 1 = cc in omega arith)
 
-  -- Turning.
+  -- The packets with one queue more at the end are those before and those of that queue.
   pub flatten-last : (qs : List (List A)) (q : List A) → flatten (qs ++ (q ∷ [])) ≡ flatten qs ++ q
   unfolding flatten
   flatten-last [] q = append-nil q
@@ -114,7 +114,7 @@ module _ {A : Type 0} where
   turned-count [] = refl
   turned-count (q ∷ qs) = simp length-append (omega arith)
 
-  -- Empty queues.
+  -- Empty queues have no packet.
   pub empty-flatten : (n : ℕ) → flatten {A = A} (replicate n []) ≡ []
   unfolding flatten
   empty-flatten zero = refl

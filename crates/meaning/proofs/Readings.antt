@@ -89,25 +89,25 @@ no-failing-t Refusal.TooShort f = refl
 abbrev pub FieldsZero : Answer → Type 0
 FieldsZero a = a .number ≢ 0 → a .number ≢ 6 → every (eqb 0) (a .fields) ≡ true
 
--- So it is of opening.
+-- A refused opening has its other result fields 0.
 pub opened-fields : (r : Opened) → FieldsZero (opened r)
 unfolding opened refusal every
 opened-fields Opened.Done f g = refl
 opened-fields (Opened.Refused why) f g = refl
 
--- Of an admission.
+-- A refused admission has its other result fields 0, unless its answer is 6.
 pub admitted-fields : (r : Admitted) → FieldsZero (admitted r)
 unfolding admitted every
 admitted-fields (Admitted.Taken n) f g = absurd (f refl)
 admitted-fields (Admitted.Refused why) f g = rw (no-failing-t why g) refl
 
--- Of an offer.
+-- A refused offer has its other result fields 0.
 pub offered-fields : (r : Offered) → FieldsZero (offered r)
 unfolding offered refusal every
 offered-fields (Offered.Accepted serial) f g = absurd (f refl)
 offered-fields (Offered.Refused why) f g = refl
 
--- Of a step.
+-- A refused step has its other result fields 0.
 pub stepped-fields : (r : Stepped) → FieldsZero (stepped r)
 unfolding stepped refusal every
 stepped-fields Stepped.Idle f g = absurd (f refl)
@@ -115,19 +115,19 @@ stepped-fields (Stepped.Sending serial left) f g = absurd (f refl)
 stepped-fields (Stepped.Departed serial connection arrival departure) f g = absurd (f refl)
 stepped-fields (Stepped.Refused why) f g = refl
 
--- Of reading.
+-- A refused reading has its other result fields 0.
 pub read-fields : (r : PlanRead) → FieldsZero (planRead r)
 unfolding planRead refusal every
 read-fields (PlanRead.Good h) f g = absurd (f refl)
 read-fields (PlanRead.Refused why) f g = refl
 
--- Of writing.
+-- A refused writing has its other result fields 0.
 pub written-fields : (r : PlanWritten) → FieldsZero (planWritten r)
 unfolding planWritten refusal every
 written-fields (PlanWritten.Written n) f g = absurd (f refl)
 written-fields (PlanWritten.Refused why) f g = refl
 
--- Of printing.
+-- Every refusal of printing leaves its field 0.
 pub printed-fields : (r : Printed) → FieldsZero (printed r)
 unfolding printed refusal every
 printed-fields (Printed.Written n) f g = absurd (f refl)

@@ -19,7 +19,7 @@ use Rattle.meaning.specs.Rest.{potential, dueNow, restOf, afterAnswer}
 use Rattle.meaning.proofs.Readings.{refused-phase}
 use Rattle.meaning.proofs.SlotsEnough.{falls, enough, start-potential, new-weight, admissions-weight}
 
--- The run is at its end.
+-- Of a run that is finished only the END line is left.
 pub rest-ended : (l : List (Placed Arrival)) (numbers : List ℕ) (box : Box) (departed : ℕ) → finished l box ≡ true
     → restOf l numbers box departed ≡ endLine (box .counter) (box .accepted) departed ∷ []
 unfolding restOf slots phase

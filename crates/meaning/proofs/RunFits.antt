@@ -196,7 +196,7 @@ arrival-count : (ws : List ℕ) (h : Header) → length (contentsOf ws h .arriva
 unfolding contentsOf
 arrival-count ws h = table-length arrivalAt 3 ws (h .arrivals .start / 4) (h .arrivals .count)
 
--- A line of a refusal.
+-- The line of a refusal is at most 8,225 lines, with small numbers.
 refused-few : (why : Refusal) → Few (refusedLine (refusalNumber why) ∷ []) 8225
 refused-few why = let r = refusal-range why in few-more (few-one (refusedLine (refusalNumber why)) (omega arith)) (omega arith)
 

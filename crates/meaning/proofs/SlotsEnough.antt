@@ -32,7 +32,7 @@ use Rattle.meaning.proofs.Readings.{refused-phase}
 use Rattle.meaning.proofs.ArrivalSums.{next-slot, from-start}
 use Rattle.meaning.proofs.QueueLaws.{nothing-waits, nothing-taken, flatten-last, empty-flatten}
 
--- Queues.
+-- Joining a tail adds at most what the packet has to send.
 joined-most : (k : ℕ) (p : Packet) (qs : List (List Packet)) → sumOf size (flatten (joinTail k p qs)) ≤ size p + sumOf size (flatten qs)
 unfolding joinTail flatten sumOf
 joined-most k p [] = omega arith
@@ -65,7 +65,7 @@ no-size : sumOf size [] ≡ 0
 unfolding sumOf
 no-size = refl
 
--- A step.
+-- Sending a unit leaves less to send on the link, if anything was.
 sent-weight : (link : Link) → linkWeight (linkSent link) ≤ linkWeight link - 1
 unfolding linkWeight linkSent
 sent-weight free = omega arith
@@ -108,7 +108,7 @@ step-weight box = turn (turnDue box) (sent-less (box .link) (box .queues))
     turn true h = rw (turned-sum (queuesTaken (box .link) (box .queues))) h
     turn false h = h
 
--- An offer.
+-- An offer leaves the counter and no less to send, and adds at most so much.
 record Offering (box after : Box) (more : ℕ) : Type 0 where
   counter-stays : after .counter ≡ box .counter
   most : weight after ≤ weight box + more

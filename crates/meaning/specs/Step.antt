@@ -21,7 +21,7 @@ unfoldable pub linkTaken : Link → List (List Packet) → Link
 linkTaken free qs = loaded (lowestHead qs)
 linkTaken (carries p left) qs = carries p left
 
--- The queues then.
+-- The queues once the step has taken its packet.
 unfoldable pub queuesTaken : Link → List (List Packet) → List (List Packet)
 queuesTaken free qs = withoutLowestHead qs
 queuesTaken (carries p left) qs = qs

@@ -24,7 +24,7 @@ performed-call ws step (toAdmission r) exit p = absurd p
 performed-call ws step (toOffer r) exit p = absurd p
 performed-call ws step (toStep r) exit p = (ap toStep (p .0), p .1)
 
--- So does a run.
+-- A performed run has the answers of the run on words, and leaves its words.
 pub performed-run : (ws : List ℕ) (calls : List Call) (answers : List Reply) (exit : List ℕ) → PerformedRun ws calls answers exit →
     (answers ≡ map (λ e. e .answer) (traceOn ws calls)) × (exit ≡ leftByRun ws calls)
 unfolding PerformedRun traceOn leftByRun

@@ -55,7 +55,7 @@ call-keeps-beyond ws (admit c) = after-beyond ws _ (sound-after (contents ws) (a
 call-keeps-beyond ws (offer n units) = after-beyond ws _ (sound-after (contents ws) (offer n units))
 call-keeps-beyond ws step = after-beyond ws _ (sound-after (contents ws) step)
 
--- So does a run.
+-- A run keeps the words beyond a state too.
 pub run-keeps-beyond : (ws : List ℕ) (calls : List Call) → BeyondKept ws (leftByRun ws calls)
 unfolding leftByRun
 run-keeps-beyond ws [] = (refl, refl)

@@ -89,7 +89,7 @@ module _ (set : Settings) (ws : List ℕ) (done : opened set ws .0 ≡ Opened.Do
   pub every-run-sound : soundWords (openedWords set ws calls) ≡ true
   every-run-sound = run-from-opening set ws done calls .1
 
-  -- Within the envelope.
+  -- Every connection that stands keeps within its envelope.
   pub within-the-envelope : (n : ℕ) → stands (openedBox set ws calls) n ≡ true →
       WithinEnvelope (connection (openedBox set ws calls) n) (slotsOf n (acceptedIn (openedTrace set ws calls)))
   within-the-envelope = rw (box, events) (Statements.within-the-envelope set (opened-allowed set ws done) calls)

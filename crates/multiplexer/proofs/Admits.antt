@@ -78,7 +78,7 @@ standing-word ws = length-series (standingAt ws) 6 rowsAt (word ws rowCountAt)
 
 -- The numbers of a connection, tested one after another.
 module _ (set : Settings) (c : Connection) where
-  -- A class off range.
+  -- A newcomer whose class number is off range is not allowed.
   pub class-off : within 1 (c .class) (classCount set) ≡ false → false ≡ connectionAllowed set c
   unfolding connectionAllowed classAllowed
   class-off e = rw e refl
@@ -88,13 +88,13 @@ module _ (set : Settings) (c : Connection) where
   unfolding connectionAllowed classAllowed longestAllowed
   longest-off e f = rw (e, f) refl
 
-  -- So is s, b is not.
+  -- A newcomer whose b is off range is not allowed.
   pub burst-off : within 1 (c .class) (classCount set) ≡ true → within 1 (c .longest) 64 ≡ true → within 1 (c .burst) 64 ≡ false
       → false ≡ connectionAllowed set c
   unfolding connectionAllowed classAllowed longestAllowed burstAllowed
   burst-off e f g = rw (e, f, g) refl
 
-  -- So is b, T is not.
+  -- A newcomer whose T is off range is not allowed.
   pub period-off : within 1 (c .class) (classCount set) ≡ true → within 1 (c .longest) 64 ≡ true → within 1 (c .burst) 64 ≡ true
       → within 1 (c .period) (set .cycle) ≡ false → false ≡ connectionAllowed set c
   unfolding connectionAllowed classAllowed longestAllowed burstAllowed periodAllowed
@@ -108,18 +108,18 @@ module _ (set : Settings) (c : Connection) where
 
 -- The answers of an admission on sound contents, in their order.
 module _ (b : Box) (c : Connection) (s : sound b ≡ true) where
-  -- 3.
+  -- Where the newcomer is not allowed, the answer is 3.
   pub answer-range : connectionAllowed (b .settings) c ≡ false → Admitted.Refused Refusal.ConnectionOffRange ≡ admissionAnswer b c
   unfolding admissionAnswer
   answer-range e = rw (s, e) refl
 
-  -- 4.
+  -- Where the newcomer is allowed and 32 connections stand, the answer is 4.
   pub answer-full : connectionAllowed (b .settings) c ≡ true → mostConnections ≤ length (b .standing)
       → Admitted.Refused Refusal.TableFull ≡ admissionAnswer b c
   unfolding admissionAnswer
   answer-full e f = rw (s, e, le-leb mostConnections (length (b .standing)) f) refl
 
-  -- 5.
+  -- Where there is room and the rate exceeds M, the answer is 5.
   pub answer-rate : connectionAllowed (b .settings) c ≡ true → length (b .standing) < mostConnections
       → b .settings .cycle < rate (b .settings) (withNewcomer b c) → Admitted.Refused Refusal.RateExceeded ≡ admissionAnswer b c
   unfolding admissionAnswer rateHolds

@@ -42,7 +42,7 @@ pub conforms-same : (row : Standing) (a : Allowance) (slot : ℕ)
 unfolding conforms refilled cameBack full
 conforms-same row a slot = refl
 
--- So is the charge.
+-- Charging an allowance uses of a row only b and T.
 pub charged-same : (row : Standing) (a : Allowance) (slot : ℕ)
     → charged (sender (row .asked .burst) (row .asked .period)) a slot ≡ charged (row .asked) a slot
 unfolding charged refilled cameBack full
@@ -143,7 +143,7 @@ module _ (ws : List ℕ) (n units : ℕ) (row : Standing) (ok : Acceptable ws n 
   abbrev box : Box
   box = contents ws
 
-  -- The packet.
+  -- The packet that is accepted.
   abbrev packet : Packet
   packet = record { serial = suc (box .accepted); connection = n; units = units; arrival = box .counter }
 
@@ -151,7 +151,7 @@ module _ (ws : List ℕ) (n units : ℕ) (row : Standing) (ok : Acceptable ws n 
   abbrev chargedBox : Box
   chargedBox = withStanding box (set (box .standing) (n - 1) (record { asked = connection box n; allowance = a }))
 
-  -- The box once it waits.
+  -- The charged box with the packet at the tail of its queue.
   abbrev joinedBox : Box
   joinedBox = withQueues chargedBox (joinTail tag packet (chargedBox .queues))
 
@@ -246,32 +246,32 @@ packet-is ws n units serial slot e f =
 
 -- The answers of an offer on sound contents, in their order.
 module _ (b : Box) (n units : ℕ) (s : sound b ≡ true) where
-  -- 7.
+  -- Where no such connection stands, the answer is 7.
   pub answer-unknown : stands b n ≡ false → (Offered.Refused Refusal.NoConnection) ≡ offerAnswer b n units
   unfolding offerAnswer
   answer-unknown e = rw (s, e) refl
 
-  -- 8.
+  -- Where the connection stands and the length is 0 or above s, the answer is 8.
   pub answer-length : stands b n ≡ true → within 1 units (connection b n .longest) ≡ false
       → (Offered.Refused Refusal.WrongLength) ≡ offerAnswer b n units
   unfolding offerAnswer
   answer-length e f = rw (s, e, f) refl
 
-  -- 9.
+  -- Where the length is permitted and the packet does not fit the envelope, the answer is 9.
   pub answer-unfit : stands b n ≡ true → within 1 units (connection b n .longest) ≡ true
       → conforms (connection b n) (allowance b n) (b .counter) ≡ false
       → (Offered.Refused Refusal.NotFitting) ≡ offerAnswer b n units
   unfolding offerAnswer
   answer-unfit e f g = rw (s, e, f, g) refl
 
-  -- 10.
+  -- Where the packet fits the envelope and 1,024 packets wait, the answer is 10.
   pub answer-full : stands b n ≡ true → within 1 units (connection b n .longest) ≡ true
       → conforms (connection b n) (allowance b n) (b .counter) ≡ true
       → mostWaiting ≤ length (waiting b) → (Offered.Refused Refusal.StoreFull) ≡ offerAnswer b n units
   unfolding offerAnswer
   answer-full e f g h = rw (s, e, f, g, le-leb mostWaiting (length (waiting b)) h) refl
 
-  -- The serial.
+  -- Where the packet fits and there is room, it is accepted with the next serial.
   pub answer-accepted : stands b n ≡ true → within 1 units (connection b n .longest) ≡ true
       → conforms (connection b n) (allowance b n) (b .counter) ≡ true
       → length (waiting b) < mostWaiting → Offered.Accepted (suc (b .accepted)) ≡ offerAnswer b n units

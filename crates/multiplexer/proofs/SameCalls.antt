@@ -17,20 +17,20 @@ use Rattle.multiplexer.specs.Promises.{StepSoundPromise}
 use Rattle.multiplexer.proofs.Sounds.{promised}
 
 module _ (entry exit : List ℕ) (h : soundWords entry ≡ true) where
-  -- Of an admission.
+  -- On sound words what `admit_sound` promises is what `admit` promises.
   pub admit-same : (c : Connection) (r : Admitted) → AdmitSoundPromise entry c r exit
       → AdmitPromise entry (c .class) (c .longest) (c .burst) (c .period) r exit
   unfolding admission wordsAdmitted
   admit-same c r p =
       (p .0 ∙ rw h refl, promised entry exit (afterAdmission (contents entry) c (admissionAnswer (contents entry) c)) h (p .1))
 
-  -- Of an offer.
+  -- On sound words what `offer_sound` promises is what `offer` promises.
   pub offer-same : (n units : ℕ) (r : Offered) → OfferSoundPromise entry n units r exit → OfferPromise entry n units r exit
   unfolding offering wordsOffered
   offer-same n units r p =
       (p .0 ∙ rw h refl, promised entry exit (afterOffer (contents entry) n units (offerAnswer (contents entry) n units)) h (p .1))
 
-  -- Of a step.
+  -- On sound words what `step_sound` promises is what `step` promises.
   pub step-same : (r : Stepped) → StepSoundPromise entry r exit → StepPromise entry r exit
   unfolding stepping wordsStepped
   step-same r p = (p .0 ∙ rw h refl, promised entry exit (afterStep (contents entry) (stepAnswer (contents entry))) h (p .1))

@@ -71,7 +71,7 @@ module _ (box : Box) (departure : ℕ) (p : Packet) where
             (ap (λ l. withLink box (linkSent l)) f ∙ ap (λ b. withLink box (cond b free (carries p (left - 1)))) (lt-leb left 1 h)),
       )
 
--- The word of the counter.
+-- The word of the counter is the slot counter.
 counter-word : (ws : List ℕ) → word ws counterAt ≡ contents ws .counter
 unfolding contents
 counter-word ws = refl
@@ -88,7 +88,7 @@ only-second false b e f = absurd (true≢false (sym f))
 
 -- The three changes of a step.
 module _ (ws w₁ w₂ : List ℕ) (loads : Become ws w₁ (loadedBox (contents ws))) (sends : Become w₁ w₂ (sentBox (contents w₁))) where
-  -- The box before the step.
+  -- The box that the words stand for.
   abbrev box : Box
   box = contents ws
 
@@ -101,7 +101,7 @@ module _ (ws w₁ w₂ : List ℕ) (loads : Become ws w₁ (loadedBox (contents 
   unfolding sentBox loadedBox withLink withQueues
   counter-same = ap (λ b. b .counter) sent-box
 
-  -- The interval stays.
+  -- Loading and sending leave D.
   pub interval-same : contents w₂ .settings .interval ≡ box .settings .interval
   unfolding sentBox loadedBox withLink withQueues
   interval-same = ap (λ b. b .settings .interval) sent-box
@@ -166,7 +166,7 @@ ended-answer : (b : Box) → sound b ≡ true → lastSlot ≤ b .counter → (S
 unfolding stepAnswer
 ended-answer b s l = rw (s, le-leb lastSlot (b .counter) l) refl
 
--- 11.
+-- Where a due turn finds a packet at tag 0, the answer is 11.
 blocked-answer : (b : Box) → sound b ≡ true → b .counter < lastSlot → (turnDue b && tagZeroWaits (queuesTaken (b .link) (b .queues))) ≡ true
     → (Stepped.Refused Refusal.TurnBlocked) ≡ stepAnswer b
 unfolding stepAnswer
@@ -180,7 +180,7 @@ moves-answer b s l e = rw (s, lt-leb lastSlot (b .counter) l, e) refl
 
 -- The answer of a step on sound words, and what it leaves.
 module _ (ws : List ℕ) (h : soundWords ws ≡ true) where
-  -- The answer.
+  -- The answer of the step.
   abbrev answer : Stepped
   answer = stepAnswer (contents ws)
 

@@ -27,27 +27,27 @@ use Rattle.tables.specs.TableChanges.{withLink}
 unfoldable pub wordsAfter : List ℕ → Box → List ℕ
 wordsAfter ws box = cond (soundWords ws) (put box ws) ws
 
--- Admission.
+-- The answer to an admission on words, sound or not.
 unfoldable pub admission : List ℕ → Connection → Admitted
 admission ws c = cond (soundWords ws) (admissionAnswer (contents ws) c) (Admitted.Refused Refusal.NotSound)
 
--- The words after it.
+-- The words after an admission.
 unfoldable pub wordsAdmitted : List ℕ → Connection → List ℕ
 wordsAdmitted ws c = wordsAfter ws (afterAdmission (contents ws) c (admissionAnswer (contents ws) c))
 
--- Offering a packet.
+-- The answer to an offer on words, sound or not.
 unfoldable pub offering : List ℕ → ℕ → ℕ → Offered
 offering ws n units = cond (soundWords ws) (offerAnswer (contents ws) n units) (Offered.Refused Refusal.NotSound)
 
--- The words after it.
+-- The words after an offer.
 unfoldable pub wordsOffered : List ℕ → ℕ → ℕ → List ℕ
 wordsOffered ws n units = wordsAfter ws (afterOffer (contents ws) n units (offerAnswer (contents ws) n units))
 
--- A step.
+-- The answer to a step on words, sound or not.
 unfoldable pub stepping : List ℕ → Stepped
 stepping ws = cond (soundWords ws) (stepAnswer (contents ws)) (Stepped.Refused Refusal.NotSound)
 
--- The words after it.
+-- The words after a step.
 unfoldable pub wordsStepped : List ℕ → List ℕ
 wordsStepped ws = wordsAfter ws (afterStep (contents ws) (stepAnswer (contents ws)))
 

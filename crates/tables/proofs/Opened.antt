@@ -44,7 +44,7 @@ module _ (set : Settings) (ws : List ℕ) (done : opened set ws .0 ≡ Opened.Do
   unfolding opened afterOpening
   opened-words = ap (afterOpening set ws) done
 
-  -- There were words enough.
+  -- A successful opening was lent enough words for a box.
   pub words-enough : boxWords ≤ length ws
   unfolding opened
   words-enough = ltb-false (length ws) boxWords (done-says set boxWords (length ws) done .1)

@@ -71,7 +71,7 @@ link-only ws after left p w =
     not-within : (i : ℕ) → (leftAt ≤ i → i < lengthsAt → ⊥) → i < lengthsAt → i < leftAt
     not-within i h l = elim (decLe leftAt i) [ yes a ↦ absurd (h a l) | no a ↦ omega arith ]
 
--- The link changes.
+-- A link that is written makes the words those of the box with that link.
 pub link-become : (ws after : List ℕ) (left : ℕ) (p : Packet) → Fitting ws → PacketPut (set ws leftAt left) after linkAt p
     → linkClear after ≡ true
     → Become ws after (withLink (contents ws) (linkOf left p))

@@ -64,18 +64,18 @@ empty-box box e =
     let n = length-append (flatten (box .queues)) (onLink (box .link)) in
     record { link-free = no-packet (box .link) (omega (arith, n, e)); none-wait = omega (arith, n, e) }
 
--- Nothing waits in it.
+-- In a box that tests as empty no packet waits.
 pub none-waiting : (box : Box) → eqb (length (packets box)) 0 ≡ true → length (waiting box) ≡ 0
 unfolding waiting
 none-waiting box e = empty-box box (eqb-true _ _ e) .none-wait
 
--- It is empty at any slot.
+-- An empty box is empty with any counter.
 pub empty-later : (box : Box) (n : ℕ) → Empty box → Empty (withCounter box n)
 unfolding withCounter
 empty-later box n e = record { link-free = e .link-free; none-wait = e .none-wait }
 
 module _ (box : Box) (e : Empty box) where
-  -- Its step takes nothing.
+  -- The link of an empty box stays free.
   link-stays : linkTaken (box .link) (box .queues) ≡ free
   unfolding linkTaken loaded
   link-stays = ap (λ l. linkTaken l (box .queues)) (e .link-free) ∙ ap loaded (none-lowest (box .queues) (e .none-wait))
@@ -86,7 +86,7 @@ module _ (box : Box) (e : Empty box) where
   queues-stay =
       ap (λ l. queuesTaken l (box .queues)) (e .link-free) ∙ nothing-taken (box .queues) (none-lowest (box .queues) (e .none-wait))
 
-  -- Its turn is not blocked.
+  -- No turn of an empty box is blocked.
   not-blocked : (turnDue box && tagZeroWaits (queuesTaken (box .link) (box .queues))) ≡ false
   not-blocked = ap (λ b. turnDue box && b) (ap tagZeroWaits queues-stay ∙ none-zero (box .queues) (e .none-wait)) ∙ go (turnDue box)
     where
@@ -119,7 +119,7 @@ module _ (box : Box) (e : Empty box) where
       (ap linkSent link-stays ∙ sym (e .link-free)) stepped-stay
 
   module _ (s : sound box ≡ true) (below : box .counter < lastSlot) where
-    -- Its step is idle.
+    -- A step of an empty, sound box before the last slot is idle.
     pub idle-answer : stepAnswer box ≡ Stepped.Idle
     unfolding stepAnswer sentAnswer
     idle-answer = rw (s, lt-leb lastSlot (box .counter) below, not-blocked, link-stays) refl

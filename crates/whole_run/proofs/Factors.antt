@@ -8,7 +8,7 @@ use lib.Seq.{take-suc, take-suc-set, take-all}
 use Rattle.meaning.specs.Plan.{wordsOf, factorAt, table}
 use Rattle.plan.specs.Entries.{length-table, getD-table, take-table}
 
--- One factor more.
+-- With one factor more copied, the factors copied are those of the table up to it.
 pub factor-on : (bytes factors : List ℕ) (i f : ℕ) → i < length factors → f ≡ factorAt (wordsOf bytes) i
     → take i factors ≡ table factorAt 1 (wordsOf bytes) 0 i
     → take (i + 1) (set factors i f) ≡ table factorAt 1 (wordsOf bytes) 0 (i + 1)
@@ -25,7 +25,7 @@ factor-on bytes factors i f h e t =
     (take-suc-set factors i f h ∙ ap (λ m. m ++ (f ∷ [])) (t ∙ sym (take-table factorAt 1 ws 0 (suc i) i (omega arith))) ∙
     sym (end ∙ ap (λ x. take i all ++ (x ∷ [])) last))
 
--- All of them.
+-- With all places filled, the factors copied are those of the table.
 pub factors-end : (bytes factors before : List ℕ) (i : ℕ) → i ≡ length factors → length factors ≡ length before
     → take i factors ≡ table factorAt 1 (wordsOf bytes) 0 i
     → factors ≡ table factorAt 1 (wordsOf bytes) 0 (length before)

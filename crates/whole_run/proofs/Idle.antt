@@ -144,7 +144,7 @@ module _ (bytes : List ℕ) (box : Box) (passed : ℕ) (walked : Walked bytes bo
         (none-due slot (arrivalsIn bytes) (sorted .never-falling) same)
         (sym (not-yet bytes (withCounter box slot) passed (walks slot (omega arith) (omega (arith, h))) remain)))
 
--- No slot is passed.
+-- Words that stay as they are pass no slot.
 pub stays : (bytes : List ℕ) (passed : ℕ) (ws : List ℕ) → soundWords ws ≡ true → Walked bytes (contents ws) passed
     → PassesIdle bytes passed (contents ws) ws
 stays bytes passed ws s w =

@@ -13,7 +13,7 @@ use Rattle.laws.specs.Tests.{within, within-test, within-below}
 use Rattle.meaning.specs.Run.{numberOf, placeOf}
 
 module _ (numbers : List ℕ) (place : ℕ) where
-  -- Place 0 names none.
+  -- Place 0 names no connection.
   pub none-zero : place ≡ 0 → 0 ≡ numberOf numbers place
   unfolding numberOf
   none-zero e = rw (within-below 1 place (length numbers) (omega arith)) refl
@@ -47,7 +47,7 @@ module _ (numbers : List ℕ) (n i : ℕ) (looked : Looked numbers n i) where
   unfolding placeOf
   place-passed m rest d e = sym (ap (λ l. placeOf (suc i) l n) d ∙ rw (ne-eqb m n e) refl) ∙ looked
 
-  -- So it is at place i.
+  -- If the number at i is another, the place is still to be found from i + 1 on.
   pub passed : i < length numbers → getD numbers i 0 ≢ n → Looked numbers n (i + 1)
   passed h e =
       let s : suc i ≡ i + 1 = omega arith in
@@ -58,6 +58,6 @@ module _ (numbers : List ℕ) (n i : ℕ) (looked : Looked numbers n i) where
   unfolding placeOf
   place-none d = sym (ap (λ l. placeOf (suc i) l n) d) ∙ looked
 
-  -- So it is past the last.
+  -- If all numbers are looked at, the number has no place.
   pub not-found : i ≡ length numbers → 0 ≡ placeOf 1 numbers n
   not-found e = place-none (ap (λ k. drop k numbers) e ∙ drop-length numbers)

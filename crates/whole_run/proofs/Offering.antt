@@ -62,7 +62,7 @@ module _ (numbers due : List ℕ) (from i : ℕ) (a : Arrival) (is : a ≡ arriv
       ap (λ x. x ∷ drop (suc i) (arrivalsIn due))
       (getD-table arrivalAt 3 (wordsOf due) 0 (length due / 12) i a below ∙ ap (arrivalAt (wordsOf due)) z ∙ sym is)
 
-  -- The answer of its offer.
+  -- The answer to the arrival's offer, on a box.
   abbrev answerOn : Box → Offered
   answerOn box = offerAnswer box (numberOf numbers (a .place)) (a .units)
 
@@ -79,7 +79,7 @@ module _ (numbers due : List ℕ) (from i : ℕ) (a : Arrival) (is : a ≡ arriv
         box = rest .box;
       }
 
-  -- So it is.
+  -- The offers from the i-th arrival on are that of this arrival and then the rest.
   opens : (box : Box) → restOffered numbers due from i box ≡ opened box
   unfolding offerAll placedFrom
   opens box =
@@ -108,7 +108,7 @@ module _ (numbers due : List ℕ) (from i : ℕ) (a : Arrival) (is : a ≡ arriv
           offerLine (suc from + i) (offered (answerOn (contents ws)) .number) (getD (offered (answerOn (contents ws)) .fields) 0 0)
       line-is = rw (e, f, g) refl
 
-      -- The line comes next.
+      -- What is left to print is the offer's line and the lines of the rest.
       to-print :
           Reached before out start (textOf (offersOf numbers due from box .lines))
           (lineText (offerLine place number serial) ++ textOf (restOffered numbers due from (suc i) after .lines)) at
@@ -143,7 +143,7 @@ module _ (numbers due : List ℕ) (from i : ℕ) (a : Arrival) (is : a ≡ arriv
                 to-print p);
           })
 
--- All offers are done.
+-- Once all offers of the slot are made, their lines are put.
 pub offer-end :
     (numbers due : List ℕ) (from : ℕ) {box : Box} {i : ℕ} {ws before out : List ℕ} {start at : ℕ} → i ≡ length due / 12
     → Offering numbers due from box i ws before out start at → Offers (offersOf numbers due from box) ws before out start at

@@ -18,7 +18,7 @@ use Rattle.meaning.proofs.Readings.{refusal-range}
 use Rattle.lines.specs.Put.{Put}
 use Rattle.lines.proofs.Reached.{put-none, text-one, text-none}
 
--- The line of a departure.
+-- The text of a step at which a packet departs is its DEPART line.
 pub departed-line : (numbers : List ℕ) (answer : Stepped) (serial connection arrival departure place : ℕ)
     → answer ≡ Stepped.Departed serial connection arrival departure
     → place ≡ placeOf 1 numbers connection → textOf (departures numbers answer) ≡ lineText (departLine serial place arrival departure)
@@ -27,7 +27,7 @@ departed-line numbers answer serial connection arrival departure place e p =
     ap (λ a. textOf (departures numbers a)) e ∙ text-one (departLine serial (placeOf 1 numbers connection) arrival departure) ∙
     ap (λ q. lineText (departLine serial q arrival departure)) (sym p)
 
--- No line.
+-- A step without a line leaves the buffer as it is.
 pub no-line : (numbers : List ℕ) (answer : Stepped) (out : List ℕ) (at : ℕ) → departures numbers answer ≡ []
     → Put out out at (textOf (departures numbers answer)) at
 no-line numbers answer out at e = subst (λ l. Put out out at l at) (sym (ap textOf e ∙ text-none)) (put-none out at)

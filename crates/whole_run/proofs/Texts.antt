@@ -36,7 +36,7 @@ run-text : (bytes : List ℕ) → runText bytes ≡ textOf (run bytes)
 unfolding runText
 run-text bytes = refl
 
--- There is room for it.
+-- A buffer of 420,000 bytes has room for the text of any run.
 pub text-room : (bytes out : List ℕ) → 420000 ≤ length out → Room out 0 (runText bytes)
 text-room bytes out h = let f = run-fits bytes in omega (arith, f, h)
 

@@ -19,7 +19,7 @@ pub length-padded : (n : ℕ) (l : List ℕ) → length l ≤ n → length (padd
 unfolding padded
 length-padded n l h = rw (length-append l (replicate (n - length l) 0), length-replicate {A = ℕ} (n - length l) 0) (omega arith)
 
--- The words after a part.
+-- After a part of n words stand the words that follow it.
 pub after-part : (ws a b : List ℕ) (i n : ℕ) → drop i ws ≡ a ++ b → length a ≡ n → drop (i + n) ws ≡ b
 after-part ws a b i n e l = sym (drop-drop n i ws) ∙ ap (drop n) e ∙ drop-at a b n l
 
@@ -131,7 +131,7 @@ padded-zeros n l e h =
     ap (λ x. x ++ replicate (n - length l) 0) e ∙ replicate-append-replicate {A = ℕ} (length l) (n - length l) 0 ∙
     ap (λ m. replicate m 0) k)
 
--- Such tables are zeros.
+-- Tables that hold zeros alone are laid as zeros.
 pub laid-zeros : (ts : List Table) → Empty ts → laid ts ≡ replicate (total ts) 0
 unfolding laid total Empty
 laid-zeros [] k = refl

@@ -147,7 +147,7 @@ lengths-words ws =
     (let e : lengthsAt + (0 + 1 * i) ≡ lengthsAt + 1 * i = omega arith in
     length-series (packetAt ws) 4 (startOf ws (0 + 1 * i)) (word ws (lengthsAt + (0 + 1 * i))) ∙ ap (λ x. word ws x) e))
 
--- The table of rows.
+-- The words of the rows with their zeros are the table of rows.
 rows-words : (ws : List ℕ) → Fitting ws
     → padded (counterAt - rowsAt) (flatten (map standingWords (standings ws))) ≡ series (λ j. word ws j) 1 rowsAt (counterAt - rowsAt)
 unfolding standings
@@ -155,7 +155,7 @@ rows-words ws k =
     rw (chunks-words (standingAt ws) standingWords (λ j. word ws j) 6 (standing-words ws) rowsAt (word ws rowCountAt))
     (padded-series ws rowsAt (6 * word ws rowCountAt) counterAt (omega (arith, k .rows)) (k .rows-clear))
 
--- The table of factors.
+-- The factors with their zeros are the table of factors.
 factors-words : (ws : List ℕ) → Fitting ws
     → padded (rowCountAt - factorsAt) (settingsAt ws .factors) ≡ series (λ j. word ws j) 1 factorsAt (rowCountAt - factorsAt)
 unfolding settingsAt
@@ -178,7 +178,7 @@ first-words : (ws : List ℕ)
 unfolding settingsAt padded series
 first-words ws = ap (λ n. word ws intervalAt ∷ word ws cycleAt ∷ n ∷ []) (class-count ws)
 
--- The number of rows.
+-- The number of rows is the word at its place.
 row-count-words : (ws : List ℕ)
     → padded (rowsAt - rowCountAt) (length (standings ws) ∷ []) ≡ series (λ j. word ws j) 1 rowCountAt (rowsAt - rowCountAt)
 unfolding padded series
