@@ -1,4 +1,6 @@
 // The rate and the search for the first failing t, over the connections in words. Document 01, "Admission".
+#![tactic(auto)]
+
 ghost use Rattle.std.specs.Prelude.{◌≡◌, ◌≤◌, ◌<◌, max, ◌&&◌, ◌+◌, leb, ltb};
 ghost use Rattle.meaning.specs.Numbers.{bound};
 ghost use Rattle.meaning.specs.Envelope.{envelope, delayed as delayedIs};
@@ -13,7 +15,7 @@ use tables::settings::{class_count, class_factor, cycle, interval};
 use words::numbers::wide;
 
 // What the search finds: the first t that fails, or that none does.
-#[derive(Drop)]
+#[derive(Clone, Copy)]
 pub enum Found {
     FailsAt(u32),
     Holds,

@@ -1,4 +1,6 @@
 // The number of an answer and its other result fields, one after another, computed here for lines, for C and for tests.
+#![tactic(auto)]
+
 ghost use Rattle.std.specs.Prelude.{◌≡◌, drop};
 ghost use Rattle.meaning.specs.Answers.{told, refusal_number, failing_t, opened, admitted, offered, stepped, plan_read, plan_written, printed};
 ghost use Rattle.answers.specs.Fitting.{FitWords};

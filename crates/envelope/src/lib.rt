@@ -1,4 +1,6 @@
 // The allowance of one connection: does a packet conform, and the charge of an accepted one. Document 01, "Envelope".
+#![tactic(auto)]
+
 ghost use Rattle.std.specs.Prelude.{◌≡◌};
 ghost use Rattle.meaning.specs.Envelope.{full, refilled, conforms, charged as charged_is};
 ghost use Rattle.envelope.specs.Record.{sender, Ready, Chargeable};

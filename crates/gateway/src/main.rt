@@ -1,4 +1,6 @@
 // The program: a plan on standard input, the lines of its run on standard output. Everything that matters is in `whole_run`.
+#![tactic(auto)]
+
 use libc::{STDIN_FILENO, STDOUT_FILENO};
 use meaning::Printed;
 use whole_run::rooms::{plan_room, text_room};

@@ -48,6 +48,7 @@ module _ {A : Type 0} where
   -- A member's part is at most the sum.
   pub sum_member : (f : A → ℕ) (l : List A) {a : A} → Memᴰ a l → f a ≤ sum_of f l
   unfolding sum_of
+  sum_member f [] {a = a} x' = elim x' [ ]
   sum_member f (x ∷ l) {a} (Memᴰ.head e) = let y : f a ≡ f x = ap f e in omega arith
   sum_member f (x ∷ l) (Memᴰ.tail m) = let y = sum_member f l m in omega arith
 
@@ -77,6 +78,7 @@ module _ {A : Type 0} where
   -- A member's value is at most the largest.
   pub largest_member : (f : A → ℕ) (l : List A) {a : A} → Memᴰ a l → f a ≤ largest_of f l
   unfolding largest_of
+  largest_member f [] {a = a} x' = elim x' [ ]
   largest_member f (x ∷ l) {a} (Memᴰ.head e) = let y : f a ≡ f x = ap f e in omega arith
   largest_member f (x ∷ l) (Memᴰ.tail m) = let y = largest_member f l m in omega arith
 

@@ -1,4 +1,6 @@
 // One line of output into a lent buffer: a fixed word and its numbers. Document 01, "The program and one whole run".
+#![tactic(auto)]
+
 ghost use Rattle.std.specs.Prelude.{◌≡◌, ◌+◌, ◌<◌};
 ghost use Rattle.meaning.specs.Lines.{decimal, line_text};
 ghost use Rattle.meaning.specs.Run.{admit_line, offer_line, depart_line, end_line, refused_line, stop_line};

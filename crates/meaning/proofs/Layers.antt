@@ -292,7 +292,11 @@ module _ {A : Type 0} where
           let o : without_chosen (lowest_rank w) w ≡ without_rank r w = rw c.lowest (chosen_gone w r c.which c.rank_is_lem) in
           let a = only_without_same r w x q e in
           let b = layers_without w r (suc r) n (omega arith) in
-          rw o (cc)
+          let k : only r (without_rank r w) ∷ layers (without_rank r w) (suc r) n ≡ layers (without_chosen (lowest_rank w) w) r (suc n)
+          = sym (ap (λ v. layers v r (suc n)) o) in
+          let j : without_lowest_head ((x ∷ q) ∷ layers w (suc r) n) ≡ only r (without_rank r w) ∷ layers (without_rank r w) (suc r) n
+          = cc in
+          j ∙ k
 
   -- What waits once a packet of a rank is taken waited before.
   without_member : (t : ℕ) (w : List (Ranked A)) {p : Ranked A} → Memᴰ p (without_rank t w) → Memᴰ p w

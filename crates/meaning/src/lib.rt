@@ -1,7 +1,8 @@
 // What the code and the definitions both speak of, each declared once: the things that document 01 names, and the answers of the calls.
+#![tactic(auto)]
 
 // What a connection asks for: the number of its class, its longest packet s, its burst b and its period T.
-#[derive(Drop)]
+#[derive(Clone, Copy)]
 pub struct Connection {
     pub class: u32,
     pub longest: u32,
@@ -11,21 +12,21 @@ pub struct Connection {
 
 // "The allowance record of a connection": the slot at which the next credit comes back, which is the next conforming slot where none is
 // left, and the burst credit.
-#[derive(Drop)]
+#[derive(Clone, Copy)]
 pub struct Allowance {
     pub next: u32,
     pub credit: u32,
 }
 
 // A connection that stands, with its allowance.
-#[derive(Drop)]
+#[derive(Clone, Copy)]
 pub struct Standing {
     pub asked: Connection,
     pub allowance: Allowance,
 }
 
 // An accepted packet: its serial, the number of its connection, its length in units and the slot of its arrival.
-#[derive(Drop)]
+#[derive(Clone, Copy)]
 pub struct Packet {
     pub serial: u32,
     pub connection: u32,
@@ -34,7 +35,7 @@ pub struct Packet {
 }
 
 // "slot, connection, length per arrival"; the connection is named by its place in the file.
-#[derive(Drop)]
+#[derive(Clone, Copy)]
 pub struct Arrival {
     pub slot: u32,
     pub place: u32,
@@ -42,7 +43,7 @@ pub struct Arrival {
 }
 
 // Why a call refuses: the rows of document 01's "Answer numbers", in their order. Their numbers are in specs/Answers.antt.
-#[derive(Drop)]
+#[derive(Clone, Copy)]
 pub enum Refusal {
     NotSound,
     SettingsOffRange,
@@ -66,28 +67,28 @@ pub enum Refusal {
 // The answers of the calls: what is done, or why it is refused. Their numbers and values are in specs/Answers.antt.
 
 // Opening a box.
-#[derive(Drop)]
+#[derive(Clone, Copy)]
 pub enum Opened {
     Done,
     Refused(Refusal),
 }
 
 // Admission: the connection's number.
-#[derive(Drop)]
+#[derive(Clone, Copy)]
 pub enum Admitted {
     Taken(u32),
     Refused(Refusal),
 }
 
 // Offering a packet: its serial.
-#[derive(Drop)]
+#[derive(Clone, Copy)]
 pub enum Offered {
     Accepted(u32),
     Refused(Refusal),
 }
 
 // A step.
-#[derive(Drop)]
+#[derive(Clone, Copy)]
 pub enum Stepped {
     Idle,
     Sending {
@@ -104,14 +105,14 @@ pub enum Stepped {
 }
 
 // A table of a plan: how many entries it has, and the byte at which it starts.
-#[derive(Drop)]
+#[derive(Clone, Copy)]
 pub struct Table {
     pub count: usize,
     pub start: usize,
 }
 
 // What the header of a plan says.
-#[derive(Drop)]
+#[derive(Clone, Copy)]
 pub struct Header {
     pub interval: u32,
     pub cycle: u32,
@@ -121,21 +122,21 @@ pub struct Header {
 }
 
 // Reading a plan: its header.
-#[derive(Drop)]
+#[derive(Clone, Copy)]
 pub enum PlanRead {
     Good(Header),
     Refused(Refusal),
 }
 
 // Writing a plan: the number of bytes written.
-#[derive(Drop)]
+#[derive(Clone, Copy)]
 pub enum PlanWritten {
     Written(usize),
     Refused(Refusal),
 }
 
 // Printing the run of a plan: the number of bytes written.
-#[derive(Drop)]
+#[derive(Clone, Copy)]
 pub enum Printed {
     Written(usize),
     Refused(Refusal),

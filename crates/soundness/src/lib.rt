@@ -1,4 +1,6 @@
 // The test of soundness, on any words.
+#![tactic(auto)]
+
 pub mod packets;
 pub mod rows;
 pub mod settings;

@@ -1,4 +1,6 @@
 // The store of waiting packets in words: the lengths of the queues and their packets.
+#![tactic(auto)]
+
 pub mod lengths;
 pub mod moves;
 pub mod queues;

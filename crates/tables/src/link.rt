@@ -10,7 +10,7 @@ use words::packets::{read_packet, write_packet};
 use words::places::{LEFT_AT, LINK_AT};
 
 // The link: units left, 0 where it is free, and the packet on it.
-#[derive(Drop)]
+#[derive(Clone, Copy)]
 pub struct Carried {
     pub left: u32,
     pub packet: Packet,

@@ -81,7 +81,7 @@ fn is_finished(ws: &[u32], table: &[u8], passed: usize) -> bool
 }
 
 // What a slot leaves: where the text stands, the arrivals that are passed, the number of the step's answer, and its departures.
-#[derive(Drop)]
+#[derive(Clone, Copy)]
 struct Slot {
     at: usize,
     passed: usize,
