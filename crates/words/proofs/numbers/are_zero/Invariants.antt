@@ -1,0 +1,15 @@
+use Rattle.words.specs.Places.{word}
+use lib.Dec.{eqb}
+use Rattle.laws.specs.Series.{every_stop, every_next, every_end}
+use Rattle.words.specs.Sound.{zeros}
+use borrow.Author.Tests.{eq-eqb, ne_eqb}
+use native.Mathlib.Omega.{arith}
+use mathlib.Core.Path.{◌≡◌, refl, sym, ◌∙◌}
+use Prim.Native.Nat.{◌-◌, ◌≤◌}
+use Rattle.words.proofs.numbers.are_zero.Given as goal
+
+abbrev pub invariant-loop-i : goal.invariant-loop-i
+invariant-loop-i l = (l.from ≤ l.i) × (l.i ≤ l.to) × (zeros l.ws l.i (l.to - l.i) ≡ zeros l.ws l.from (l.to - l.from))
+
+abbrev pub decreases-loop-i : goal.decreases-loop-i
+decreases-loop-i l = l.to - l.i
