@@ -1,0 +1,10 @@
+use Rattle.tables.proofs.RowChanges.{allowance_become}
+use lib.ListN.{length-set}
+use native.Mathlib.Omega.{arith}
+use borrow.Author.Rules.{rules}
+use Rattle.tables.proofs.rows.write_allowance.Goals as goal
+
+pub returns : goal.returns
+returns c =
+    rw c.wide.ensures.0 (allowance_become c.args.ws.now c.args.n c.args.next c.args.credit c.requires.0 c.requires.1
+    c.requires.2)

@@ -1,0 +1,8 @@
+use Rattle.words.specs.Contents.{contents, settings_at}
+use mathlib.Core.Path.{refl}
+use borrow.Author.Rules.{rules}
+use Rattle.tables.proofs.settings.interval.Goals as goal
+
+pub returns : goal.returns
+unfolding contents settings_at
+returns c = refl
