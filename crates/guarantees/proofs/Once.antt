@@ -12,6 +12,7 @@ use Rattle.laws.specs.Tests.{within, within_facts, within_test, bool_cases}
 use Rattle.laws.specs.Sums.{sum_of, sum_append}
 use Rattle.laws.specs.SumLaws.{given, given_true, given_false, sum_one}
 use Rattle.meaning.specs.Numbers.{Settings}
+use Rattle.meaning.specs.declared.Connection.{Connection}
 use Rattle.meaning.specs.declared.Packet.{Packet}
 use Rattle.meaning.specs.Box.{Box, Link, carries, waiting, on_link}
 use Rattle.meaning.specs.Queues.{empty_queues}
@@ -19,7 +20,7 @@ use Rattle.meaning.specs.Calls.{new_box, with_standing, after_offer}
 use Rattle.meaning.specs.Step.{link_taken, queues_taken, link_sent, moved}
 use Rattle.meaning.proofs.QueueLaws.{empty_flatten}
 use Rattle.guarantees.specs.Runs.{Departure, times_among, count_from}
-use Rattle.guarantees.proofs.Moves.{Move, refused, joins, accepts, idles, sends, departs, new_packet, leaving, accepting}
+use Rattle.guarantees.proofs.Moves.{Move, refused, joins, accepts, idles, sends, departs, new_packet, leaving, accepting, joining}
 use Rattle.guarantees.proofs.Effects.{accepted_put, Taking, nothing, takes, carrying, taking, stepped_same}
 
 -- What f gives for these packets, by serial, connection and arrival.
@@ -79,10 +80,17 @@ module _ (box : Box) (f : ℕ → ℕ → ℕ → ℕ) where
   unfolding link_sent on_link of_packets sum_of
   left_once p left e = rw e
 
+-- A connection that joins moves no packet.
+joined_once : (box : Box) (c : Connection) (G : List Departure) (f : ℕ → ℕ → ℕ → ℕ)
+    → of_packets f (waiting box) + of_packets f (on_link box.link) + of_departures f G
+    ≡ of_packets f (waiting (joining box c)) + of_packets f (on_link (joining box c).link) + of_departures f G
+unfolding with_standing waiting
+joined_once box c G f = refl
+
 -- Every move keeps it.
 pub once_moves : (box next : Box) (H H' : List Packet) (G G' : List Departure) → Once box H G → Move box H G next H' G' → Once next H' G'
 once_moves box next H H' G G' o refused = o
-once_moves box next H H' G G' o (joins c n e) = unfold with_standing waiting in o
+once_moves box next H H' G G' o (joins c n e) = λ f. o f ∙ joined_once box c G f
 once_moves box next H H' G G' o (accepts n units s) = λ f. accepted f (o f)
   where
     accepted : (f : ℕ → ℕ → ℕ → ℕ) → of_packets f H ≡ of_packets f (waiting box) + of_packets f (on_link box.link) + of_departures f G →
