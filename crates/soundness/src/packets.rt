@@ -33,7 +33,7 @@ fn packet_kept(ws: &[u32], at: usize) -> bool
 // The rank that the arrival slot and the class of the packet at this word give.
 fn rank_of(ws: &[u32], at: usize) -> usize
     requires tables { Tables ws.now × (at + 4 ≤ length ws.now) }
-    requires at_value { packet_kept (contents ws.now) (packet_at ws.now at) ≡ true }
+    requires kept { packet_kept (contents ws.now) (packet_at ws.now at) ≡ true }
     ensures { result ≡ rank_in (contents ws.now) (packet_at ws.now at) }
 {
     let class = wide(ws[ROWS_BEFORE + 6 * wide(ws[at + 1])]);
