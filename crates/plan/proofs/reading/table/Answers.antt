@@ -1,0 +1,7 @@
+use Rattle.plan.specs.Parts.{table_of}
+use Rattle.std.proofs.Common.{rules}
+use Rattle.plan.proofs.reading.table.Goals as goal
+
+pub returns : goal.returns
+unfolding table_of
+returns c = rw (c.number.ensures, c.number-2.ensures)

@@ -1,0 +1,7 @@
+use Rattle.meaning.specs.Plan.{factor_at}
+use Rattle.std.proofs.Common.{rules}
+use Rattle.plan.proofs.tables.factor.Goals as goal
+
+pub returns : goal.returns
+unfolding factor_at
+returns c = c.number.ensures
