@@ -1,0 +1,153 @@
+use mathlib.Core.Path.{refl, sym, ap, ap₂, subst, ◌∙◌}
+use native.Mathlib.Omega.{arith}
+use borrow.Author.Tests.{not-true, not-false}
+use Rattle.laws.specs.Tests.{within}
+use Rattle.meaning.specs.declared.Refusal.{Refusal}
+use Rattle.meaning.specs.declared.Offered.{Offered}
+use Rattle.meaning.specs.Envelope.{conforms}
+use Rattle.meaning.specs.Calls.{after_offer}
+use Rattle.words.specs.Contents.{contents}
+use Rattle.words.proofs.Counts.{sound_fitting}
+use Rattle.words.proofs.TestedSound.{sound_contents}
+use Rattle.multiplexer.specs.Promised.{RowReady}
+use Rattle.multiplexer.proofs.Offers.{stands_as, number_within, row_ready, answer_unknown, answer_length, answer_unfit}
+use Rattle.multiplexer.proofs.Offers.{answer_full, answer_accepted, refused, taken}
+use borrow.Author.Rules.{rules}
+use Rattle.multiplexer.proofs.offering.offer_sound.Goals as goal
+
+pub standing_count-requires : goal.standing_count-requires
+standing_count-requires c = sound_fitting c.args.ws.now c.requires
+
+pub returns-then-not-is_within : goal.returns-then-not-is_within
+unfolding after_offer
+returns-then-not-is_within c =
+    let ws = c.args.ws.now in
+    let n = c.args.n in
+    let units = c.args.units in
+    refused ws n units c.requires (Offered.Refused Refusal.NoConnection)
+    (answer_unknown (contents ws) n units (sound_contents ws c.requires)
+    (stands_as (contents ws) n c.standing_count.result c.standing_count.ensures
+    c.is_within.result c.is_within.ensures
+    (c.if-not-is_within.true))) refl
+
+pub read_row-row-requires : goal.read_row-row-requires
+read_row-row-requires c =
+    let ws = c.args.ws.now in
+    let n = c.args.n in
+    let units = c.args.units in
+    let k = number_within ws n
+    (stands_as (contents ws) n c.standing_count.result c.standing_count.ensures
+    c.is_within.result c.is_within.ensures
+    (c.if-not-is_within.false)) in
+    (sound_fitting ws c.requires, k.0, k.1)
+
+pub returns-then-not-is_within-2 : goal.returns-then-not-is_within-2
+unfolding after_offer
+returns-then-not-is_within-2 c =
+    let ws = c.args.ws.now in
+    let n = c.args.n in
+    let units = c.args.units in
+    let row = c.read_row-row in
+    refused ws n units c.requires (Offered.Refused Refusal.WrongLength)
+    (answer_length (contents ws) n units (sound_contents ws c.requires)
+    (stands_as (contents ws) n c.standing_count.result c.standing_count.ensures
+    c.is_within.result c.is_within.ensures
+    (c.if-not-is_within.false))
+    (ap (λ q. within 1 units q.longest) row.ensures.0 ∙ sym c.is_within-2.ensures ∙
+    c.if-not-is_within-2.true)) refl
+
+pub counter-requires : goal.counter-requires
+counter-requires c =
+    sound_fitting c.args.ws.now c.requires
+
+pub fits-requires : goal.fits-requires
+fits-requires c =
+    let ws = c.args.ws.now in
+    let n = c.args.n in
+    let units = c.args.units in
+    let row = c.read_row-row in
+    subst (RowReady row.result) (sym c.counter.ensures)
+    (row_ready ws n row.result c.requires
+    (stands_as (contents ws) n c.standing_count.result c.standing_count.ensures
+    c.is_within.result c.is_within.ensures
+    (c.if-not-is_within.false)) row.ensures.0 row.ensures.1)
+
+pub returns-then-not-fits : goal.returns-then-not-fits
+unfolding after_offer
+returns-then-not-fits c =
+    let ws = c.args.ws.now in
+    let n = c.args.n in
+    let units = c.args.units in
+    let row = c.read_row-row in
+    refused ws n units c.requires (Offered.Refused Refusal.NotFitting)
+    (answer_unfit (contents ws) n units (sound_contents ws c.requires)
+    (stands_as (contents ws) n c.standing_count.result c.standing_count.ensures
+    c.is_within.result c.is_within.ensures
+    (c.if-not-is_within.false))
+    (ap (λ q. within 1 units q.longest) row.ensures.0 ∙ sym c.is_within-2.ensures ∙
+    c.if-not-is_within-2.false)
+    (ap₂ (λ q a. conforms q a (contents ws).counter) row.ensures.0 row.ensures.1 ∙
+    (ap (conforms row.result.asked row.result.allowance) (sym c.counter.ensures) ∙
+    sym c.fits.ensures ∙ c.if-not-fits.true))) refl
+
+pub waiting_count-requires : goal.waiting_count-requires
+waiting_count-requires c =
+    sound_fitting c.args.ws.now c.requires
+
+pub returns-then-waiting_count-ge1024 : goal.returns-then-waiting_count-ge1024
+unfolding after_offer
+returns-then-waiting_count-ge1024 c =
+    let ws = c.args.ws.now in
+    let n = c.args.n in
+    let units = c.args.units in
+    let row = c.read_row-row in
+    refused ws n units c.requires (Offered.Refused Refusal.StoreFull)
+    (answer_full (contents ws) n units (sound_contents ws c.requires)
+    (stands_as (contents ws) n c.standing_count.result c.standing_count.ensures
+    c.is_within.result c.is_within.ensures
+    (c.if-not-is_within.false))
+    (ap (λ q. within 1 units q.longest) row.ensures.0 ∙ sym c.is_within-2.ensures ∙
+    c.if-not-is_within-2.false)
+    (ap₂ (λ q a. conforms q a (contents ws).counter) row.ensures.0 row.ensures.1 ∙
+    (ap (conforms row.result.asked row.result.allowance) (sym c.counter.ensures) ∙
+    sym c.fits.ensures ∙ c.if-not-fits.false))
+    (omega (arith, c.waiting_count.ensures, c.if-waiting_count-ge1024.true))) refl
+
+pub accept-requires : goal.accept-requires
+accept-requires c =
+    let ws = c.args.ws.now in
+    let n = c.args.n in
+    let units = c.args.units in
+    let row = c.read_row-row in
+    record {
+      sound_words_lem = c.requires;
+      number_stands = stands_as (contents ws) n c.standing_count.result
+          c.standing_count.ensures c.is_within.result c.is_within.ensures
+          (c.if-not-is_within.false);
+      row_asked = row.ensures.0;
+      row_allowance = row.ensures.1;
+      permitted = sym c.is_within-2.ensures ∙ c.if-not-is_within-2.false;
+      fit = (ap (conforms row.result.asked row.result.allowance) (sym c.counter.ensures) ∙
+          sym c.fits.ensures ∙ c.if-not-fits.false);
+      room = omega (arith, c.waiting_count.ensures, c.if-waiting_count-ge1024.false);
+    }
+
+pub returns : goal.returns
+returns c =
+    let ws = c.args.ws.now in
+    let n = c.args.n in
+    let units = c.args.units in
+    let row = c.read_row-row in
+    let a = c.accept in
+    taken ws n units c.requires a.new.ws a.result a.ensures.0
+    (answer_accepted (contents ws) n units (sound_contents ws c.requires)
+    (stands_as (contents ws) n c.standing_count.result c.standing_count.ensures
+    c.is_within.result c.is_within.ensures
+    (c.if-not-is_within.false))
+    (ap (λ q. within 1 units q.longest) row.ensures.0 ∙ sym c.is_within-2.ensures ∙
+    c.if-not-is_within-2.false)
+    (ap₂ (λ q a. conforms q a (contents ws).counter) row.ensures.0 row.ensures.1 ∙
+    (ap (conforms row.result.asked row.result.allowance) (sym c.counter.ensures) ∙
+    sym c.fits.ensures ∙ c.if-not-fits.false))
+    (omega (arith, c.waiting_count.ensures, c.if-waiting_count-ge1024.false)))
+    a.ensures.1
