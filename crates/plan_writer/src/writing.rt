@@ -52,7 +52,7 @@ fn put_plan(
     buf: &mut [u8],
 )
     requires lengths { Lengths (length factors.now) (length connections.now) (length arrivals.now) }
-    requires arrivals_in_bounds { lent_size (length factors.now) (length connections.now) (length arrivals.now) ≤ length buf.old }
+    requires room { lent_size (length factors.now) (length connections.now) (length arrivals.now) ≤ length buf.old }
     ensures { buf.new ≡ pasted buf.old 0
         (plan_bytes (lent_plan (lent interval cycle factors.now connections.now arrivals.now))) }
 {
