@@ -13,7 +13,7 @@ use plan::tables::connection;
 
 // The lines of the admissions, and the number of each place of the file, 0 for one that was refused.
 pub fn admit_all(ws: &mut [u32], table: &[u8], numbers: &mut [u32], out: &mut [u8]) -> usize
-    requires ws_value { (sound_words ws.old ≡ true) × (length table.now / 16 ≤ length numbers.old) × (length numbers.old ≤ 32) }
+    requires sound { (sound_words ws.old ≡ true) × (length table.now / 16 ≤ length numbers.old) × (length numbers.old ≤ 32) }
     requires room { Room out.old 0 (text_of (admissions_of table.now (contents ws.old)).lines) }
     ensures { Admits (admissions_of table.now (contents ws.old)) (length table.now / 16)
         ws.new numbers.new out.old out.new result }

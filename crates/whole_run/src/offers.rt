@@ -21,7 +21,7 @@ pub fn offer_all(
     out: &mut [u8],
     start: usize,
 ) -> usize
-    requires ws_value { (sound_words ws.old ≡ true) × (from + length due.now / 12 ≤ 65536) }
+    requires sound { (sound_words ws.old ≡ true) × (from + length due.now / 12 ≤ 65536) }
     requires room { Room out.old start (text_of (offers_of numbers.now due.now from (contents ws.old)).lines) }
     ensures { Offers (offers_of numbers.now due.now from (contents ws.old)) ws.new
         out.old out.new start result }

@@ -33,7 +33,7 @@ fn copy_factors(classes: &[u8], factors: &mut [u32])
 
 // The run of a plan in a box that is open.
 fn run_open(ws: &mut [u32], plan: &[u8], h: Header, out: &mut [u8]) -> usize
-    requires ws_value { (sound_words ws.old ≡ true) × (contents ws.old ≡ new_box (contents_of (words_of plan.now) h).settings) ×
+    requires sound { (sound_words ws.old ≡ true) × (contents ws.old ≡ new_box (contents_of (words_of plan.now) h).settings) ×
         Readable plan.now h }
     requires room { Room out.old 0 (text_of (open_run (contents_of (words_of plan.now) h))) }
     ensures { Put out.old out.new 0 (text_of (open_run (contents_of (words_of plan.now) h))) result }

@@ -98,7 +98,7 @@ fn run_slot(
     out: &mut [u8],
     start: usize,
 ) -> Slot
-    requires ws_value { (sound_words ws.old ≡ true) × Walked table.now (contents ws.old) passed × Sorted table.now ×
+    requires sound { (sound_words ws.old ≡ true) × Walked table.now (contents ws.old) passed × Sorted table.now ×
         (length numbers.now ≤ 32) }
     requires room { Room out.old start (text_of (lines_of_slot numbers.now table.now (contents ws.old))) }
     ensures { RunsSlot result numbers.now table.now (contents ws.old) ws.new
@@ -145,7 +145,7 @@ pub fn run_slots(
     out: &mut [u8],
     start: usize,
 ) -> usize
-    requires ws_value { (sound_words ws.old ≡ true) × ((contents ws.old).counter ≡ 0) × Sorted table.now × (length numbers.now ≤ 32) }
+    requires sound { (sound_words ws.old ≡ true) × ((contents ws.old).counter ≡ 0) × Sorted table.now × (length numbers.now ≤ 32) }
     requires room { Room out.old start (text_of (rest_of_run numbers.now table.now (contents ws.old))) }
     ensures { Put out.old out.new start
         (text_of (rest_of_run numbers.now table.now (contents ws.old))) result }
