@@ -14,7 +14,7 @@ use Rattle.meaning.specs.declared.Stepped.{Stepped}
 use Rattle.meaning.specs.Numbers.{last_slot}
 use Rattle.meaning.specs.Queues.{turned, lowest_head, without_lowest_head, tag_zero_waits}
 use Rattle.meaning.specs.declared.Packet.{Packet}
-use Rattle.meaning.specs.Box.{Box, Link, free, carries, connection, waiting, on_link, packets, packet_kept, sound}
+use Rattle.meaning.specs.Box.{Box, Link, free, carries, waiting, on_link, packets, packet_kept, sound}
 use Rattle.meaning.specs.Answers.{stepped}
 use Rattle.meaning.specs.Step.{loaded, link_taken, queues_taken, sent_answer, link_sent, turn_due, step_answer, queues_stepped, moved}
 use Rattle.meaning.specs.Run.{depart_line, place_of, departures}

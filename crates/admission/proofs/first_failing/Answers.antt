@@ -1,11 +1,9 @@
-use Prim.Native.Nat.{◌-◌}
 use mathlib.Core.Path.{ap, ◌∙◌}
-use mathlib.Core.Logic.{⊎_elim}
 use Rattle.laws.specs.Search.{fails_at}
 use native.Mathlib.Omega.{arith}
 use Rattle.words.proofs.Readings.{cycle_word, classes_word}
 use Rattle.admission.proofs.Tables.{classes_within, cycle_most, row_allowed}
-use Rattle.admission.proofs.Searching.{Searching, Adding, known, speaks_range, begins, adds, fails_now, fails_before_all, goes_on, finds, finds_none}
+use Rattle.admission.proofs.Searching.{known, speaks_range, begins, adds, fails_now, fails_before_all, goes_on, finds, finds_none}
 use Rattle.admission.proofs.first_failing.Goals as goal
 use Rattle.admission.proofs.first_failing.Goals.{then-end-t, else-end-t+then-loop-i-test+then-t-sum, else-end-t+else-loop-i-test+then-t-sum-2}
 
@@ -159,21 +157,21 @@ pub returns-then-found-end : goal.returns-then-found-end
 returns-then-found-end c =
     let k = c.search.invariant in
     elim c.if-end-t.branch [
-      then-end-t w ↦ absurd (omega arith)
-    | else-end-t+then-loop-i-test+then-t-sum w ↦
-        let a = w.loop-i.invariant in
-        let more = adds a w.loop-i-test.true w.asked_at-row.ensures w.term_of-sum-in-loop-i.ensures w.way_of.ensures in
-        ap fails_at w.found-is ∙ finds k a.t_below (fails_before_all more w.if-t-sum.true)
-    | else-end-t+else-loop-i-test+then-t-sum-2 w ↦
-        let a = w.loop-i.invariant in
-        ap fails_at w.found-is ∙ finds k a.t_below (fails_now a w.loop-i-test.false w.if-t-sum-2.true)
+      | then-end-t w ↦ absurd (omega arith)
+      | else-end-t+then-loop-i-test+then-t-sum w ↦
+          let a = w.loop-i.invariant in
+          let more = adds a w.loop-i-test.true w.asked_at-row.ensures w.term_of-sum-in-loop-i.ensures w.way_of.ensures in
+          ap fails_at w.found-is ∙ finds k a.t_below (fails_before_all more w.if-t-sum.true)
+      | else-end-t+else-loop-i-test+then-t-sum-2 w ↦
+          let a = w.loop-i.invariant in
+          ap fails_at w.found-is ∙ finds k a.t_below (fails_now a w.loop-i-test.false w.if-t-sum-2.true)
     ]
 
 pub returns-else-found-end : goal.returns-else-found-end
 returns-else-found-end c =
     let k = c.search.invariant in
     elim c.if-end-t.branch [
-      then-end-t w ↦ finds_none k w.if-end-t.true
-    | else-end-t+then-loop-i-test+then-t-sum w ↦ absurd (let a = w.loop-i.invariant.t_below in omega arith)
-    | else-end-t+else-loop-i-test+then-t-sum-2 w ↦ absurd (let a = w.loop-i.invariant.t_below in omega arith)
+      | then-end-t w ↦ finds_none k w.if-end-t.true
+      | else-end-t+then-loop-i-test+then-t-sum w ↦ absurd (let a = w.loop-i.invariant.t_below in omega arith)
+      | else-end-t+else-loop-i-test+then-t-sum-2 w ↦ absurd (let a = w.loop-i.invariant.t_below in omega arith)
     ]

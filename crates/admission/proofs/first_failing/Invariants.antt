@@ -1,11 +1,5 @@
 use Prim.Native.Nat.{◌-◌}
-use mathlib.Core.Path.{ap, ◌∙◌}
-use mathlib.Core.Logic.{⊎_elim}
-use Rattle.laws.specs.Search.{fails_at}
-use native.Mathlib.Omega.{arith}
-use Rattle.words.proofs.Readings.{cycle_word, classes_word}
-use Rattle.admission.proofs.Tables.{classes_within, cycle_most, row_allowed}
-use Rattle.admission.proofs.Searching.{Searching, Adding, known, speaks_range, begins, adds, fails_now, fails_before_all, goes_on, finds, finds_none}
+use Rattle.admission.proofs.Searching.{Searching, Adding}
 use Rattle.admission.proofs.first_failing.Given as goal
 
 abbrev pub invariant-loop-i : goal.invariant-loop-i

@@ -1,9 +1,8 @@
-use Prim.Native.Nat.{◌-◌}
 use mathlib.Core.Path.{refl, ◌∙◌}
 use native.Mathlib.Omega.{arith}
 use Rattle.admission.proofs.Tables.{asked_small}
 use Rattle.words.proofs.Readings.{cycle_word}
-use Rattle.admission.proofs.Rating.{Rating, adds_most, rate_begins, next_allowed, next_most, rates_on, rated}
+use Rattle.admission.proofs.Rating.{adds_most, rate_begins, next_allowed, next_most, rates_on, rated}
 use Rattle.admission.proofs.rate.Goals as goal
 
 pub standing_count-requires : goal.standing_count-requires

@@ -1,4 +1,3 @@
-use borrow.Author.Tests.{not-true, not-false}
 use mathlib.Core.Path.{◌∙◌, sym}
 use native.Mathlib.Omega.{arith}
 use Rattle.admission.proofs.Tables.{interval_read, asked_small, asked_class, way_silent, way_longest, way_nothing}
@@ -6,9 +5,9 @@ use Rattle.admission.proofs.way_of.Goals as goal
 
 pub returns-then-not-speaks : goal.returns-then-not-speaks
 returns-then-not-speaks c = (
-      way_silent c.args.ws.now c.args.c c.args.t (sym c.requires.1.1.1 ∙ c.if-not-speaks.true),
-      omega arith,
-    )
+  way_silent c.args.ws.now c.args.c c.args.t (sym c.requires.1.1.1 ∙ c.if-not-speaks.true),
+  omega arith,
+)
 
 pub bound_of-d-requires : goal.bound_of-d-requires
 bound_of-d-requires c = (c.requires.0, asked_class c.args.ws.now c.args.c c.requires.1.0)

@@ -1,6 +1,5 @@
 use mathlib.Core.Path.{sym, ap}
 use Rattle.meaning.specs.Answers.{refusal_number}
-use borrow.Author.Rules.{rules}
 use Rattle.answers.proofs.number_of.Goals as goal
 
 pub returns-in-NotSound : goal.returns-in-NotSound

@@ -1,7 +1,6 @@
 use mathlib.Core.Path.{refl}
 use Rattle.meaning.specs.Answers.{told, admitted}
 use Rattle.answers.proofs.Tells.{tells}
-use borrow.Author.Rules.{rules}
 use Rattle.answers.proofs.tell_admitted.Goals as goal
 
 pub returns-in-Taken : goal.returns-in-Taken

@@ -2,7 +2,6 @@ use mathlib.Core.Path.{refl, ap}
 use mathlib.Core.List.{[], ◌∷◌}
 use Rattle.meaning.specs.Answers.{told, refusal, offered}
 use Rattle.answers.proofs.Tells.{tells}
-use borrow.Author.Rules.{rules}
 use Rattle.answers.proofs.tell_offered.Goals as goal
 
 pub returns-in-Accepted : goal.returns-in-Accepted

@@ -2,7 +2,6 @@ use mathlib.Core.Path.{refl, ap}
 use mathlib.Core.List.{[], ◌∷◌}
 use Rattle.meaning.specs.Answers.{told, refusal, opened}
 use Rattle.answers.proofs.Tells.{tells}
-use borrow.Author.Rules.{rules}
 use Rattle.answers.proofs.tell_opened.Goals as goal
 
 pub returns-in-Done : goal.returns-in-Done

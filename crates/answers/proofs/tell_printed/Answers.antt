@@ -2,7 +2,6 @@ use mathlib.Core.Path.{refl, ap}
 use mathlib.Core.List.{[], ◌∷◌}
 use Rattle.meaning.specs.Answers.{told, refusal, printed}
 use Rattle.answers.proofs.Tells.{tells, fits}
-use borrow.Author.Rules.{rules}
 use Rattle.answers.proofs.tell_printed.Goals as goal
 
 pub overflow_cast-result : goal.overflow_cast-result

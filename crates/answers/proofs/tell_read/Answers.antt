@@ -3,7 +3,6 @@ use mathlib.Core.Path.{refl, ap}
 use mathlib.Core.List.{[], ◌∷◌}
 use Rattle.meaning.specs.Answers.{told, refusal, header_fields, plan_read}
 use Rattle.answers.proofs.Tells.{tells, fits}
-use borrow.Author.Rules.{rules}
 use Rattle.answers.proofs.tell_read.Goals as goal
 
 pub overflow_cast-result : goal.overflow_cast-result

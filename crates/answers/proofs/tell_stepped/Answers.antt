@@ -2,7 +2,6 @@ use mathlib.Core.Path.{refl, ap}
 use mathlib.Core.List.{[], ◌∷◌}
 use Rattle.meaning.specs.Answers.{told, refusal, stepped}
 use Rattle.answers.proofs.Tells.{tells}
-use borrow.Author.Rules.{rules}
 use Rattle.answers.proofs.tell_stepped.Goals as goal
 
 pub returns-in-Idle : goal.returns-in-Idle

@@ -1,4 +1,3 @@
-use borrow.Author.Rules.{rules}
 use Rattle.envelope.proofs.Refills.{charged_full, charged_fewer, credit_left}
 use Rattle.envelope.proofs.charged.Goals as goal
 

@@ -1,5 +1,4 @@
 use mathlib.Core.Path.{ap}
-use borrow.Author.Rules.{rules}
 use lib.Dec.{leb}
 use Rattle.meaning.specs.Envelope.{conforms}
 use Rattle.envelope.proofs.conforming.Goals as goal

@@ -1,9 +1,5 @@
-use Prim.Native.Nat.{◌-◌}
 use mathlib.Core.Path.{sym, ◌∙◌}
-use borrow.Author.Rules.{rules}
-use native.Mathlib.Nat.{div-le_self}
-use native.Mathlib.Omega.{arith}
-use Rattle.envelope.proofs.Refills.{in_range, waits, filled, fewer, small}
+use Rattle.envelope.proofs.Refills.{in_range, waits, filled, fewer}
 use Rattle.envelope.proofs.refill.Goals as goal
 
 pub returns-then-slot-next : goal.returns-then-slot-next

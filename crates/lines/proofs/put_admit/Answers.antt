@@ -3,7 +3,6 @@ use mathlib.Core.List.{[], ◌∷◌}
 use Rattle.meaning.specs.Lines.{ascii, line_text}
 use Rattle.lines.specs.Put.{Room, Put}
 use Rattle.lines.proofs.Texts.{line_text_lem}
-use borrow.Author.Rules.{rules}
 use Rattle.lines.proofs.put_admit.Goals as goal
 
 pub put_line-requires : goal.put_line-requires

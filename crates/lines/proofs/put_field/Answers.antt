@@ -2,7 +2,6 @@ use mathlib.Core.List.{[], ◌∷◌}
 use native.Mathlib.Omega.{arith}
 use Rattle.meaning.specs.Lines.{decimal}
 use Rattle.lines.proofs.Puts.{then, room_first, room_after, put_byte}
-use borrow.Author.Rules.{rules}
 use Rattle.lines.proofs.put_field.Goals as goal
 
 pub put_number-last-requires : goal.put_number-last-requires

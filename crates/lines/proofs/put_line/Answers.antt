@@ -1,6 +1,5 @@
 use Rattle.lines.specs.Put.{fields}
 use Rattle.lines.proofs.Puts.{then, room_first, room_after}
-use borrow.Author.Rules.{rules}
 use Rattle.lines.proofs.put_line.Goals as goal
 
 pub put_bytes-first-requires : goal.put_bytes-first-requires

@@ -1,20 +1,16 @@
 use Prim.Native.Nat.{◌+◌, ◌≤◌, ◌<◌, suc}
 use mathlib.Core.Path.{◌≡◌, refl, sym, ap, ap₂, ◌∙◌}
-use mathlib.Core.Bool.{true}
 use native.Mathlib.Omega.{arith}
-use borrow.Author.Rules.{rules}
-use borrow.Author.Tests.{not-true, not-false}
 use lib.ListN.{length}
 use Rattle.laws.specs.Search.{fails_at, holds}
 use Rattle.meaning.specs.declared.Refusal.{Refusal}
 use Rattle.meaning.specs.declared.Admitted.{Admitted}
-use Rattle.meaning.specs.Numbers.{connection_allowed, most_connections}
+use Rattle.meaning.specs.Numbers.{most_connections}
 use Rattle.meaning.specs.Admission.{rate, finite_search}
 use Rattle.meaning.specs.Calls.{with_newcomer, search_answer, after_admission}
 use Rattle.words.specs.Contents.{contents}
 use Rattle.words.proofs.Counts.{sound_fitting}
 use Rattle.words.proofs.TestedSound.{sound_contents}
-use Rattle.admission.specs.declared.Found.{Found}
 use Rattle.admission.specs.Asking.{search_of}
 use Rattle.multiplexer.proofs.Admits.{ready, standing_word, newcomer, settings_are}
 use Rattle.multiplexer.proofs.Admits.{answer_range, answer_full, answer_rate, answer_search, refused, taken}
@@ -53,7 +49,7 @@ unfolding after_admission
 returns-then-cycle-sum c =
     let ws = c.args.ws.now in
     let sum_is : c.rate-sum.result ≡ rate (contents ws).settings (with_newcomer (contents ws) c.args.c) =
-        c.rate-sum.ensures ∙ ap₂ rate (settings_are ws) (newcomer ws c.args.c) in
+    c.rate-sum.ensures ∙ ap₂ rate (settings_are ws) (newcomer ws c.args.c) in
     let high : (contents ws).settings.cycle < rate (contents ws).settings (with_newcomer (contents ws) c.args.c) =
     omega (arith, sum_is, c.cycle.ensures, c.if-cycle-sum.true) in
     refused ws c.args.c c.requires (Admitted.Refused Refusal.RateExceeded)
@@ -75,7 +71,7 @@ unfolding after_admission search_answer
 returns-in-FailsAt c =
     let ws = c.args.ws.now in
     let sum_is : c.rate-sum.result ≡ rate (contents ws).settings (with_newcomer (contents ws) c.args.c) =
-        c.rate-sum.ensures ∙ ap₂ rate (settings_are ws) (newcomer ws c.args.c) in
+    c.rate-sum.ensures ∙ ap₂ rate (settings_are ws) (newcomer ws c.args.c) in
     let e = c.in-FailsAt.is in
     refused ws c.args.c c.requires (Admitted.Refused (Refusal.ConditionFails c.in-FailsAt.t))
     (answer_search (contents ws) c.args.c (sound_contents ws c.requires) (fails_at c.in-FailsAt.t)
@@ -87,7 +83,7 @@ unfolding search_answer
 returns-in-Holds c =
     let ws = c.args.ws.now in
     let sum_is : c.rate-sum.result ≡ rate (contents ws).settings (with_newcomer (contents ws) c.args.c) =
-        c.rate-sum.ensures ∙ ap₂ rate (settings_are ws) (newcomer ws c.args.c) in
+    c.rate-sum.ensures ∙ ap₂ rate (settings_are ws) (newcomer ws c.args.c) in
     let count = c.standing_count-n in
     let e = c.in-Holds.is in
     let one_more : count.result + 1 ≡ suc (length (contents ws).standing) = omega (arith, count.ensures) in

@@ -12,7 +12,6 @@ use Rattle.words.proofs.Counts.{sound_fitting}
 use Rattle.multiplexer.specs.Promised.{RowReady}
 use Rattle.multiplexer.proofs.Offers.{packet_is, row_ready, class_within, accepted_most, envelope_ready, conforms_same}
 use Rattle.multiplexer.proofs.Offers.{charged_same, number_within, join_ready, count_ready, accepted_becomes}
-use borrow.Author.Rules.{rules}
 use Rattle.multiplexer.proofs.offering.accept.Goals as goal
 
 pub counter-slot-requires : goal.counter-slot-requires

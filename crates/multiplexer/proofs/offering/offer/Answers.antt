@@ -6,7 +6,6 @@ use Rattle.words.specs.Contents.{contents}
 use Rattle.words.specs.Sound.{sound_words}
 use Rattle.multiplexer.specs.Promised.{offering, words_offered}
 use Rattle.multiplexer.proofs.Sounds.{promised, unchanged}
-use borrow.Author.Rules.{rules}
 use Rattle.multiplexer.proofs.offering.offer.Goals as goal
 
 pub returns-then-not-is_sound : goal.returns-then-not-is_sound

@@ -1,6 +1,5 @@
 use mathlib.Core.Path.{refl, sym, ap, ap₂, subst, ◌∙◌}
 use native.Mathlib.Omega.{arith}
-use borrow.Author.Tests.{not-true, not-false}
 use Rattle.laws.specs.Tests.{within}
 use Rattle.meaning.specs.declared.Refusal.{Refusal}
 use Rattle.meaning.specs.declared.Offered.{Offered}
@@ -12,7 +11,6 @@ use Rattle.words.proofs.TestedSound.{sound_contents}
 use Rattle.multiplexer.specs.Promised.{RowReady}
 use Rattle.multiplexer.proofs.Offers.{stands_as, number_within, row_ready, answer_unknown, answer_length, answer_unfit}
 use Rattle.multiplexer.proofs.Offers.{answer_full, answer_accepted, refused, taken}
-use borrow.Author.Rules.{rules}
 use Rattle.multiplexer.proofs.offering.offer_sound.Goals as goal
 
 pub standing_count-requires : goal.standing_count-requires

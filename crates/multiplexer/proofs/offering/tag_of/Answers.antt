@@ -1,6 +1,5 @@
 use mathlib.Core.Path.{◌∙◌}
 use native.Mathlib.Omega.{arith}
-use borrow.Author.Rules.{rules}
 use Rattle.words.proofs.Counts.{sound_fitting}
 use Rattle.multiplexer.proofs.Offers.{tag_most}
 use Rattle.multiplexer.proofs.offering.tag_of.Goals as goal

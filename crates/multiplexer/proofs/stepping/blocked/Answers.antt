@@ -1,7 +1,4 @@
-use mathlib.Core.Path.{refl, sym, ◌∙◌}
-use borrow.Author.Tests.{not-true, not-false}
 use Rattle.words.proofs.Counts.{sound_fitting}
-use borrow.Author.Rules.{rules}
 use Rattle.multiplexer.proofs.stepping.blocked.Goals as goal
 
 pub tag_zero_waits-requires : goal.tag_zero_waits-requires

@@ -3,7 +3,6 @@ use native.Mathlib.Numerals.{add-one}
 use Prim.Native.Nat.{suc}
 use Rattle.meaning.specs.Step.{sent_answer}
 use Rattle.multiplexer.proofs.Steps.{raise_ready, link_same, whole_step}
-use borrow.Author.Rules.{rules}
 use Rattle.multiplexer.proofs.stepping.move_on.Goals as goal
 
 pub raise_counter-requires : goal.raise_counter-requires

@@ -1,10 +1,9 @@
-use mathlib.Core.Path.{◌≡◌, refl, subst}
+use mathlib.Core.Path.{◌≡◌, subst}
 use native.Mathlib.Omega.{arith}
 use Rattle.words.specs.Contents.{contents, no_packet}
 use Rattle.words.specs.Changes.{Become}
 use Rattle.multiplexer.proofs.Sounds.{become_same}
 use Rattle.multiplexer.proofs.Steps.{none_sent, last_sent, one_sent}
-use borrow.Author.Rules.{rules}
 use Rattle.multiplexer.proofs.stepping.send_unit.Goals as goal
 
 pub returns-then-left-eq0 : goal.returns-then-left-eq0

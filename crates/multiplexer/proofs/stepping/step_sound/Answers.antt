@@ -1,7 +1,6 @@
 use mathlib.Core.Path.{sym, ◌∙◌}
 use native.Mathlib.Omega.{arith}
 use Rattle.multiplexer.proofs.Steps.{at_end, at_block, at_move}
-use borrow.Author.Rules.{rules}
 use Rattle.multiplexer.proofs.stepping.step_sound.Goals as goal
 
 pub returns-then-counter_of-ge4000000000 : goal.returns-then-counter_of-ge4000000000

@@ -1,7 +1,6 @@
 use Prim.Native.Nat.{◌+◌, ◌%◌}
 use mathlib.Core.Path.{ap₂, ◌∙◌}
 use native.Mathlib.Omega.{arith}
-use borrow.Author.Rules.{rules}
 use lib.Dec.{eqb}
 use Rattle.words.specs.Contents.{contents}
 use Rattle.words.proofs.Counts.{sound_fitting}

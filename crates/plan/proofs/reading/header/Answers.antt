@@ -1,6 +1,5 @@
 use Rattle.meaning.specs.Plan.{header_of}
 use Rattle.plan.specs.Parts.{table_of}
-use Rattle.std.proofs.Common.{rules}
 use Rattle.plan.proofs.reading.header.Goals as goal
 
 pub returns : goal.returns

@@ -1,5 +1,4 @@
-use Rattle.std.proofs.Common.{sym, ◌∙◌, arith, rules, eq-eqb, ne_eqb}
-use borrow.Author.Tests.{not-true, not-false}
+use Rattle.std.proofs.Common.{sym, ◌∙◌, arith, eq-eqb, ne_eqb}
 use Rattle.meaning.specs.Plan.{layout_wrong}
 use Rattle.plan.proofs.LaidOut.{counts_few}
 use Rattle.plan.proofs.reading.layout_wrong.Goals as goal

@@ -1,5 +1,5 @@
 use Rattle.plan.proofs.Answers.{sum_right, sum_off, answer_13, answer_14, answer_15, answer_16, answer_0, slots_of_rest}
-use Rattle.std.proofs.Common.{sym, ◌∙◌, arith, rules}
+use Rattle.std.proofs.Common.{sym, ◌∙◌, arith}
 use Rattle.meaning.specs.Plan.{words_of}
 use Rattle.plan.proofs.LaidOut.{layout_facts}
 use Rattle.plan.proofs.reading.read.Goals as goal

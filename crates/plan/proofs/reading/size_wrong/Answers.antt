@@ -1,4 +1,4 @@
-use Rattle.std.proofs.Common.{rules, le-ltb, lt-ltb, eq-eqb, ne_eqb}
+use Rattle.std.proofs.Common.{le-ltb, lt-ltb, eq-eqb, ne_eqb}
 use Rattle.meaning.specs.Plan.{size_wrong}
 use Rattle.plan.proofs.reading.size_wrong.Goals as goal
 

@@ -1,4 +1,4 @@
-use Rattle.std.proofs.Common.{◌≡◌, ◌+◌, ◌-◌, ◌/◌, ◌<◌, ◌≤◌, true, false, length, drop, sym, refl, ap, ◌∙◌, arith, rules}
+use Rattle.std.proofs.Common.{◌+◌, ◌/◌, ◌<◌, ◌≤◌, true, false, length, drop, sym, refl, ap, ◌∙◌, arith}
 use Rattle.meaning.specs.Plan.{words_of}
 use Rattle.plan.specs.Parts.{arrivals_in}
 use Rattle.plan.specs.Entries.{length_table}

@@ -1,8 +1,6 @@
-use Rattle.std.proofs.Common.{◌≡◌, ◌+◌, ◌-◌, ◌/◌, ◌<◌, ◌≤◌, true, false, length, drop, sym, refl, ap, ◌∙◌, arith, rules}
-use Rattle.meaning.specs.Plan.{words_of}
+use Rattle.std.proofs.Common.{◌≡◌, ◌-◌, ◌/◌, ◌≤◌, length, drop}
 use Rattle.plan.specs.Parts.{arrivals_in}
-use Rattle.plan.specs.Entries.{length_table}
-use Rattle.plan.proofs.Passes.{slots_good_from, slots_next, slots_fall, slots_exceed, slots_end, slots_answer, slot_at}
+use Rattle.plan.proofs.Passes.{slots_good_from}
 use Rattle.plan.proofs.reading.slots_wrong.Given as goal
 
 abbrev pub invariant-loop-i : goal.invariant-loop-i

@@ -1,5 +1,4 @@
 use Rattle.plan.specs.Parts.{table_of}
-use Rattle.std.proofs.Common.{rules}
 use Rattle.plan.proofs.reading.table.Goals as goal
 
 pub returns : goal.returns

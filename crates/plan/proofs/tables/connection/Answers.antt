@@ -1,4 +1,4 @@
-use Rattle.std.proofs.Common.{◌+◌, ◌*◌, arith, rules}
+use Rattle.std.proofs.Common.{◌+◌, ◌*◌, arith}
 use Rattle.meaning.specs.Plan.{connection_at}
 use Rattle.plan.proofs.WordLaws.{word_past}
 use Rattle.plan.proofs.tables.connection.Goals as goal

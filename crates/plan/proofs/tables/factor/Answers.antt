@@ -1,5 +1,4 @@
 use Rattle.meaning.specs.Plan.{factor_at}
-use Rattle.std.proofs.Common.{rules}
 use Rattle.plan.proofs.tables.factor.Goals as goal
 
 pub returns : goal.returns

@@ -1,8 +1,5 @@
-use Rattle.std.proofs.Common.{◌≡◌, ◌-◌, ◌/◌, ◌<◌, ◌≤◌, length, sym, refl, ◌∙◌, arith}
-use Rattle.meaning.specs.Plan.{words_of}
+use Rattle.std.proofs.Common.{◌≡◌, ◌-◌, ◌/◌, length}
 use Rattle.plan.specs.Parts.{arrivals_in, boundary}
-use Rattle.plan.specs.Entries.{length_table}
-use Rattle.plan.proofs.Passes.{boundary_next, boundary_here, boundary_end, slot_at}
 use Rattle.plan.proofs.tables.first_from.Given as goal
 
 abbrev pub invariant-loop-i : goal.invariant-loop-i

@@ -1,4 +1,4 @@
-use Rattle.std.proofs.Common.{◌+◌, ◌*◌, ◌<◌, length, arith, rules, le-leb}
+use Rattle.std.proofs.Common.{◌+◌, ◌*◌, ◌<◌, length, arith, le-leb}
 use borrow.Author.Tests.{lt-leb}
 use native.Mathlib.Nat.{add-sub_cancel_left}
 use Rattle.plan.specs.Parts.{part_of}

@@ -1,4 +1,4 @@
-use Rattle.std.proofs.Common.{◌≡◌, ◌+◌, ◌-◌, ◌/◌, ◌%◌, ◌^◌, ◌<◌, ◌≤◌, length, get_or, refl, ap, ◌∙◌, zero-add, arith, rules}
+use Rattle.std.proofs.Common.{◌≡◌, ◌+◌, ◌%◌, ◌^◌, ◌<◌, ◌≤◌, length, get_or, ap, ◌∙◌, zero-add, arith, rules}
 use Rattle.meaning.specs.Plan.{words_of, sum_words}
 use Rattle.plan.proofs.WordLaws.{length_words_of}
 use Rattle.plan.proofs.Passes.{sum_from, sum_step, sum_end}

@@ -1,7 +1,6 @@
-use Rattle.std.proofs.Common.{◌≡◌, ◌+◌, ◌-◌, ◌/◌, ◌%◌, ◌^◌, ◌<◌, ◌≤◌, length, get_or, refl, ap, ◌∙◌, zero-add, arith, rules}
+use Rattle.std.proofs.Common.{◌≡◌, ◌+◌, ◌-◌, ◌/◌, ◌%◌, ◌^◌, ◌<◌, ◌≤◌, length}
 use Rattle.meaning.specs.Plan.{words_of, sum_words}
-use Rattle.plan.proofs.WordLaws.{length_words_of}
-use Rattle.plan.proofs.Passes.{sum_from, sum_step, sum_end}
+use Rattle.plan.proofs.Passes.{sum_from}
 use Rattle.plan.proofs.words.sum_of_bytes.Given as goal
 
 abbrev pub invariant-loop-i : goal.invariant-loop-i

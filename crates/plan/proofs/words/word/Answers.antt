@@ -1,4 +1,4 @@
-use Rattle.std.proofs.Common.{arith, rules}
+use Rattle.std.proofs.Common.{arith}
 use Rattle.meaning.specs.Plan.{word_at}
 use Rattle.plan.proofs.WordLaws.{word_within}
 use Rattle.plan.proofs.words.word.Goals as goal

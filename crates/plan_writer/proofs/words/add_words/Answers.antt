@@ -1,4 +1,4 @@
-use Rattle.std.proofs.Common.{◌≡◌, ◌+◌, ◌-◌, ◌%◌, ◌^◌, ◌<◌, ◌≤◌, length, refl, arith, rules}
+use Rattle.std.proofs.Common.{◌+◌, ◌%◌, ◌^◌, refl, arith, rules}
 use Rattle.laws.specs.Sums.{sum_of}
 use Rattle.plan.proofs.Passes.{sum_from, sum_step, sum_end}
 use Rattle.plan_writer.proofs.words.add_words.Goals as goal

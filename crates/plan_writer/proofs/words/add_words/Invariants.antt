@@ -1,6 +1,6 @@
-use Rattle.std.proofs.Common.{◌≡◌, ◌+◌, ◌-◌, ◌%◌, ◌^◌, ◌<◌, ◌≤◌, length, refl, arith, rules}
+use Rattle.std.proofs.Common.{◌≡◌, ◌+◌, ◌-◌, ◌%◌, ◌^◌, ◌<◌, ◌≤◌, length}
 use Rattle.laws.specs.Sums.{sum_of}
-use Rattle.plan.proofs.Passes.{sum_from, sum_step, sum_end}
+use Rattle.plan.proofs.Passes.{sum_from}
 use Rattle.plan_writer.proofs.words.add_words.Given as goal
 
 abbrev pub invariant-loop-i : goal.invariant-loop-i

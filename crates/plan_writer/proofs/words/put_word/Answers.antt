@@ -1,4 +1,3 @@
-use Rattle.std.proofs.Common.{arith, length-set, rules}
 use Rattle.meaning.specs.Plan.{bytes_of_word}
 use Rattle.plan_writer.proofs.Pasting.{paste_four}
 use Rattle.plan_writer.proofs.words.put_word.Goals as goal

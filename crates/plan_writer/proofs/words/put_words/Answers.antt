@@ -1,5 +1,5 @@
 use mathlib.Core.List.{flatten}
-use Rattle.std.proofs.Common.{◌≡◌, ◌+◌, ◌-◌, ◌*◌, ◌≤◌, length, get_or, take, sym, refl, ap, ◌∙◌, arith, take_all, rules}
+use Rattle.std.proofs.Common.{◌+◌, ◌*◌, get_or, sym, refl, ap, ◌∙◌, arith, take_all, rules}
 use Rattle.meaning.specs.Plan.{bytes_of_word}
 use Rattle.plan_writer.specs.Bytes.{bytes_of_words, pasted}
 use Rattle.plan_writer.proofs.Pasting.{paste_none, paste_word}

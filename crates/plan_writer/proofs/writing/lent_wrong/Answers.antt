@@ -1,5 +1,4 @@
-use Rattle.std.proofs.Common.{sym, ◌∙◌, rules, ne_eqb}
-use borrow.Author.Tests.{not-true, not-false}
+use Rattle.std.proofs.Common.{sym, ◌∙◌, ne_eqb}
 use Rattle.plan_writer.proofs.LentTables.{lengths_last}
 use Rattle.plan_writer.specs.Written.{lengths_wrong}
 use Rattle.plan_writer.proofs.writing.lent_wrong.Goals as goal

@@ -1,5 +1,5 @@
 use Rattle.plan_writer.proofs.LentTables.{words_put, bytes_put}
-use Rattle.std.proofs.Common.{arith, rules}
+use Rattle.std.proofs.Common.{arith}
 use Rattle.plan_writer.proofs.writing.put_plan.Goals as goal
 
 pub returns : goal.returns

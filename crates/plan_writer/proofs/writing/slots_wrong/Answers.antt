@@ -1,4 +1,4 @@
-use Rattle.std.proofs.Common.{◌≡◌, ◌+◌, ◌-◌, ◌/◌, ◌<◌, ◌≤◌, true, false, length, drop, sym, refl, ap, ◌∙◌, arith, rules}
+use Rattle.std.proofs.Common.{◌+◌, ◌/◌, ◌<◌, ◌≤◌, true, false, length, drop, sym, refl, ap, ◌∙◌, arith, rules}
 use Rattle.plan_writer.specs.Written.{arrivals_of_words}
 use Rattle.plan.specs.Entries.{length_table}
 use Rattle.plan.proofs.Passes.{slots_good_from, slots_next, slots_fall, slots_exceed, slots_end, slots_answer, slot_at}

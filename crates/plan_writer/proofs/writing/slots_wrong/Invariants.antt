@@ -1,7 +1,6 @@
-use Rattle.std.proofs.Common.{◌≡◌, ◌+◌, ◌-◌, ◌/◌, ◌<◌, ◌≤◌, true, false, length, drop, sym, refl, ap, ◌∙◌, arith, rules}
+use Rattle.std.proofs.Common.{◌≡◌, ◌-◌, ◌/◌, ◌≤◌, length, drop}
 use Rattle.plan_writer.specs.Written.{arrivals_of_words}
-use Rattle.plan.specs.Entries.{length_table}
-use Rattle.plan.proofs.Passes.{slots_good_from, slots_next, slots_fall, slots_exceed, slots_end, slots_answer, slot_at}
+use Rattle.plan.proofs.Passes.{slots_good_from}
 use Rattle.plan_writer.proofs.writing.slots_wrong.Given as goal
 
 abbrev pub invariant-loop-i : goal.invariant-loop-i

@@ -1,4 +1,4 @@
-use Rattle.std.proofs.Common.{sym, ◌∙◌, arith, rules}
+use Rattle.std.proofs.Common.{sym, ◌∙◌, arith}
 use Rattle.meaning.specs.Plan.{lent_wrong, lent_plan}
 use Rattle.plan_writer.specs.Written.{arrivals_of_words}
 use Rattle.plan_writer.specs.Written.{lent, lengths_wrong}
@@ -65,4 +65,3 @@ returns c =
     (omega arith)
     c.put_plan.ensures in
     record { answer = e.0; bytes = e.1 }
-

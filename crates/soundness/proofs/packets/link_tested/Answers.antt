@@ -2,9 +2,8 @@ use Rattle.meaning.specs.Box.{packet_kept}
 use Rattle.words.specs.Tested.{link_tested}
 use Rattle.words.specs.Contents.{contents, packet_at}
 use mathlib.Core.Bool.{true, false}
-use borrow.Author.Tests.{eq-eqb, ne_eqb, not-true, not-false}
+use borrow.Author.Tests.{eq-eqb, ne_eqb}
 use mathlib.Core.Path.{◌≡◌, sym, ◌∙◌}
-use borrow.Author.Rules.{rules}
 use Rattle.words.specs.Places.{link_at}
 use Rattle.soundness.proofs.packets.link_tested.Goals as goal
 

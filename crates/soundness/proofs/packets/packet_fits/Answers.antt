@@ -3,9 +3,8 @@ use lib.Dec.{eqb}
 use Rattle.words.specs.Tested.{packet_fits}
 use Rattle.words.specs.Contents.{contents, packet_at}
 use mathlib.Core.Bool.{true, false, and-false}
-use borrow.Author.Tests.{lt-ltb, le-ltb, not-true, not-false}
+use borrow.Author.Tests.{lt-ltb, le-ltb}
 use mathlib.Core.Path.{◌≡◌, sym, ap, ◌∙◌}
-use borrow.Author.Rules.{rules}
 use Rattle.soundness.proofs.packets.packet_fits.Goals as goal
 
 pub returns-then-ws-at : goal.returns-then-ws-at

@@ -4,11 +4,9 @@ use Rattle.words.specs.Contents.{contents}
 use Rattle.words.specs.Places.{word, row_count_at, rows_at, accepted_at}
 use Rattle.laws.specs.Tests.{within, within_facts}
 use mathlib.Core.Bool.{true, false, and-false}
-use borrow.Author.Tests.{not-true, not-false}
 use native.Mathlib.Omega.{arith}
 use mathlib.Core.Path.{◌≡◌, sym, ap, ◌∙◌}
 use Prim.Native.Nat.{◌+◌, ◌*◌, ◌-◌}
-use borrow.Author.Rules.{rules}
 use Rattle.soundness.proofs.packets.packet_kept.Goals as goal
 
 pub returns-then-not-is_within : goal.returns-then-not-is_within

@@ -2,10 +2,9 @@ use Rattle.laws.specs.Series.{series, series_next, series_done}
 use Rattle.words.specs.Tested.{packets_fit}
 use Rattle.words.specs.Contents.{contents, packet_at}
 use Rattle.words.specs.Places.{word}
-use borrow.Author.Tests.{not-true, not-false}
 use native.Mathlib.Omega.{arith}
 use mathlib.Core.Path.{◌≡◌, sym, ap, ◌∙◌}
-use Prim.Native.Nat.{◌+◌, ◌*◌, ◌-◌, ◌≤◌}
+use Prim.Native.Nat.{◌+◌, ◌-◌}
 use Rattle.soundness.proofs.packets.packets_fit.Goals as goal
 
 pub loop-i-init : goal.loop-i-init

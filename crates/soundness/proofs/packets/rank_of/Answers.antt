@@ -3,7 +3,6 @@ use Rattle.words.specs.Places.{word, factors_at, rows_at}
 use native.Mathlib.Omega.{arith}
 use mathlib.Core.Path.{◌≡◌, sym, ap, ◌∙◌}
 use Prim.Native.Nat.{◌+◌, ◌*◌, ◌-◌}
-use borrow.Author.Rules.{rules}
 use Rattle.soundness.proofs.packets.rank_of.Goals as goal
 
 pub bounds-ws-wide : goal.bounds-ws-wide

@@ -6,7 +6,6 @@ use borrow.Author.Tests.{le-leb, lt-leb, lt-ltb, le-ltb, eq-eqb, ne_eqb}
 use native.Mathlib.Omega.{arith}
 use mathlib.Core.Path.{◌∙◌}
 use Prim.Native.Nat.{◌+◌, ◌-◌, ◌<◌}
-use borrow.Author.Rules.{rules}
 use Rattle.soundness.proofs.rows.allowance_kept.Goals as goal
 
 pub returns-then-credit-burst : goal.returns-then-credit-burst

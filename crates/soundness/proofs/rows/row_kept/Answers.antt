@@ -3,10 +3,9 @@ use Rattle.words.specs.Places.{word, cycle_at, classes_at}
 use Rattle.laws.specs.Tests.{within, within_facts}
 use Rattle.words.proofs.TableReads.{row_parts}
 use mathlib.Core.Bool.{true, false, and-false}
-use borrow.Author.Tests.{eq-eqb, ne_eqb, not-true, not-false}
+use borrow.Author.Tests.{eq-eqb, ne_eqb}
 use mathlib.Core.Path.{◌≡◌, sym, ◌∙◌}
 use Prim.Native.Nat.{◌+◌, ◌%◌}
-use borrow.Author.Rules.{rules}
 use Rattle.soundness.proofs.rows.row_kept.Goals as goal
 
 pub returns-then-not-is_within : goal.returns-then-not-is_within

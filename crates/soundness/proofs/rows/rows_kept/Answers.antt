@@ -3,11 +3,9 @@ use Rattle.words.specs.Tested.{row_kept}
 use Rattle.words.specs.Contents.{standing_at, standings}
 use Rattle.words.specs.Places.{word, row_count_at, rows_at}
 use Rattle.laws.specs.Tests.{every}
-use borrow.Author.Tests.{not-true, not-false}
-use borrow.Author.Rules.{rules}
 use native.Mathlib.Omega.{arith}
 use mathlib.Core.Path.{◌≡◌, sym, ap, ◌∙◌}
-use Prim.Native.Nat.{◌+◌, ◌*◌, ◌-◌, ◌≤◌}
+use Prim.Native.Nat.{◌-◌}
 use Rattle.soundness.proofs.rows.rows_kept.Goals as goal
 
 pub loop-i-init : goal.loop-i-init

@@ -1,12 +1,9 @@
-use Rattle.laws.specs.Series.{series, every_stop, every_next, every_end}
+use Rattle.laws.specs.Series.{series}
 use Rattle.words.specs.Tested.{row_kept}
 use Rattle.words.specs.Contents.{standing_at, standings}
-use Rattle.words.specs.Places.{word, row_count_at, rows_at}
+use Rattle.words.specs.Places.{rows_at}
 use Rattle.laws.specs.Tests.{every}
-use borrow.Author.Tests.{not-true, not-false}
-use borrow.Author.Rules.{rules}
-use native.Mathlib.Omega.{arith}
-use mathlib.Core.Path.{◌≡◌, sym, ap, ◌∙◌}
+use mathlib.Core.Path.{◌≡◌}
 use Prim.Native.Nat.{◌+◌, ◌*◌, ◌-◌, ◌≤◌}
 use Rattle.soundness.proofs.rows.rows_kept.Given as goal
 

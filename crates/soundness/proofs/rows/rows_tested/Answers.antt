@@ -4,10 +4,9 @@ use Rattle.words.specs.Contents.{standings}
 use Rattle.words.specs.Places.{rows_at, counter_at}
 use Rattle.laws.specs.Tests.{every}
 use mathlib.Core.Bool.{true, false, and-false}
-use borrow.Author.Tests.{le-leb, lt-leb, not-true, not-false}
+use borrow.Author.Tests.{le-leb, lt-leb}
 use mathlib.Core.Path.{◌≡◌, sym, ap, ◌∙◌}
 use Prim.Native.Nat.{◌+◌, ◌*◌, ◌-◌}
-use borrow.Author.Rules.{rules}
 use Rattle.soundness.proofs.rows.rows_tested.Goals as goal
 
 pub returns-then-ws-gt32 : goal.returns-then-ws-gt32

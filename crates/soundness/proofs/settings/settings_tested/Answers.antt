@@ -8,11 +8,10 @@ use Rattle.words.specs.Places.{word, interval_at, cycle_at, classes_at, factors_
 use lib.ListN.{take, drop}
 use lib.Dec.{leb}
 use mathlib.Core.Bool.{true, false, and-false}
-use borrow.Author.Tests.{le-leb, lt-leb, not-true, not-false}
+use borrow.Author.Tests.{le-leb, lt-leb}
 use native.Mathlib.Omega.{arith}
 use mathlib.Core.Path.{◌≡◌, sym, ap, ◌∙◌}
 use Prim.Native.Nat.{◌+◌, ◌-◌}
-use borrow.Author.Rules.{rules}
 use Rattle.soundness.proofs.settings.settings_tested.Goals as goal
 
 pub returns-then-count-gt8 : goal.returns-then-count-gt8

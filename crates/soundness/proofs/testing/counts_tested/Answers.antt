@@ -7,7 +7,6 @@ use borrow.Author.Tests.{le-leb, lt-leb, eq-eqb, ne_eqb}
 use native.Mathlib.Omega.{arith}
 use mathlib.Core.Path.{◌≡◌, sym, ◌∙◌}
 use Prim.Native.Nat.{◌+◌}
-use borrow.Author.Rules.{rules}
 use Rattle.soundness.proofs.testing.counts_tested.Goals as goal
 
 pub returns-then-ws-gt4000000000 : goal.returns-then-ws-gt4000000000

@@ -6,9 +6,8 @@ use Rattle.words.specs.Tested.{settings_tested, rows_tested, counts_tested, link
 use Rattle.words.proofs.TestedSound.{tested_sound}
 use lib.ListN.{length}
 use mathlib.Core.Bool.{true, false, ◌&&◌, and-false}
-use borrow.Author.Tests.{leb-true, le-leb, lt-leb, not-true, not-false}
+use borrow.Author.Tests.{leb-true, le-leb, lt-leb}
 use mathlib.Core.Path.{◌≡◌, sym, ◌∙◌}
-use borrow.Author.Rules.{rules}
 use Rattle.soundness.proofs.testing.is_sound.Goals as goal
 
 pub returns-then-ws-lt-BOX_WORDS : goal.returns-then-ws-lt-BOX_WORDS

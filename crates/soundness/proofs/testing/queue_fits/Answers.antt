@@ -9,7 +9,6 @@ use borrow.Author.Tests.{le-leb, lt-leb}
 use native.Mathlib.Omega.{arith}
 use mathlib.Core.Path.{◌≡◌, sym, ap, ◌∙◌}
 use Prim.Native.Nat.{◌+◌, ◌-◌, ◌%◌}
-use borrow.Author.Rules.{rules}
 use Rattle.soundness.proofs.testing.queue_fits.Goals as goal
 
 pub returns-then-tag-largest_factor : goal.returns-then-tag-largest_factor

@@ -7,11 +7,9 @@ use Rattle.words.specs.Places.{start_of, lengths_below, tag_of}
 use Rattle.words.specs.Tested.{queue_fits, queues_tested}
 use Rattle.words.specs.Contents.{turns_at, queue_at}
 use mathlib.Core.Bool.{Bool, true}
-use borrow.Author.Tests.{not-true, not-false}
-use borrow.Author.Rules.{rules}
 use native.Mathlib.Omega.{arith}
 use mathlib.Core.Path.{◌≡◌, refl, sym, ap, ◌∙◌}
-use Prim.Native.Nat.{ℕ, suc, ◌-◌, ◌≤◌}
+use Prim.Native.Nat.{ℕ, suc}
 use Rattle.soundness.proofs.testing.queues_tested.Goals as goal
 
 pub loop-place-init : goal.loop-place-init

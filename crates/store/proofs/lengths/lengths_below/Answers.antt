@@ -1,9 +1,7 @@
 use native.Mathlib.Numerals.{add-one}
 use Rattle.words.specs.Places.{lengths_below}
-use borrow.Author.Rules.{rules}
 use native.Mathlib.Omega.{arith}
 use mathlib.Core.Path.{◌≡◌, refl}
-use Prim.Native.Nat.{◌*◌, ◌-◌, ◌^◌, ◌≤◌}
 use Rattle.store.proofs.lengths.lengths_below.Goals as goal
 
 pub loop-i-init : goal.loop-i-init

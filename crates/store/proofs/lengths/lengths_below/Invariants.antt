@@ -1,8 +1,5 @@
-use native.Mathlib.Numerals.{add-one}
 use Rattle.words.specs.Places.{lengths_below}
-use borrow.Author.Rules.{rules}
-use native.Mathlib.Omega.{arith}
-use mathlib.Core.Path.{◌≡◌, refl}
+use mathlib.Core.Path.{◌≡◌}
 use Prim.Native.Nat.{◌*◌, ◌-◌, ◌^◌, ◌≤◌}
 use Rattle.store.proofs.lengths.lengths_below.Given as goal
 

@@ -1,6 +1,5 @@
 use Rattle.words.proofs.Counts.{waiting_count}
 use mathlib.Core.Path.{◌∙◌}
-use borrow.Author.Rules.{rules}
 use Rattle.store.proofs.lengths.waiting_count.Goals as goal
 
 pub returns : goal.returns

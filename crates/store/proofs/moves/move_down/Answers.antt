@@ -1,6 +1,5 @@
-use Rattle.store.proofs.Moving.{DownTo, down_start, down_next, down_end}
+use Rattle.store.proofs.Moving.{down_start, down_next, down_end}
 use native.Mathlib.Omega.{arith}
-use Prim.Native.Nat.{◌+◌, ◌-◌, ◌≤◌}
 use Rattle.store.proofs.moves.move_down.Goals as goal
 
 pub loop-i-init : goal.loop-i-init

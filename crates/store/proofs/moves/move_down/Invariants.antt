@@ -1,5 +1,4 @@
-use Rattle.store.proofs.Moving.{DownTo, down_start, down_next, down_end}
-use native.Mathlib.Omega.{arith}
+use Rattle.store.proofs.Moving.{DownTo}
 use Prim.Native.Nat.{◌+◌, ◌-◌, ◌≤◌}
 use Rattle.store.proofs.moves.move_down.Given as goal
 

@@ -1,6 +1,6 @@
-use Rattle.store.proofs.Moving.{UpTo, up_start, up_next, up_end}
+use Rattle.store.proofs.Moving.{up_start, up_next, up_end}
 use native.Mathlib.Omega.{arith}
-use Prim.Native.Nat.{◌-◌, ◌≤◌}
+use Prim.Native.Nat.{◌-◌}
 use Rattle.store.proofs.moves.move_up.Goals as goal
 
 pub loop-i-init : goal.loop-i-init

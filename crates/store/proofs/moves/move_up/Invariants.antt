@@ -1,6 +1,5 @@
-use Rattle.store.proofs.Moving.{UpTo, up_start, up_next, up_end}
-use native.Mathlib.Omega.{arith}
-use Prim.Native.Nat.{◌-◌, ◌≤◌}
+use Rattle.store.proofs.Moving.{UpTo}
+use Prim.Native.Nat.{◌≤◌}
 use Rattle.store.proofs.moves.move_up.Given as goal
 
 abbrev pub invariant-loop-i : goal.invariant-loop-i

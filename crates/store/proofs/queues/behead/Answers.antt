@@ -5,7 +5,6 @@ use Rattle.words.specs.Contents.{contents, turns_at}
 use native.Mathlib.Omega.{arith}
 use mathlib.Core.Path.{◌≡◌, ap, ◌∙◌}
 use Prim.Native.Nat.{◌+◌, ◌*◌, ◌-◌}
-use borrow.Author.Rules.{rules}
 use Rattle.store.proofs.queues.behead.Goals as goal
 
 pub place_of-place-requires : goal.place_of-place-requires

@@ -7,7 +7,6 @@ use Rattle.words.specs.Contents.{contents, turns_at}
 use native.Mathlib.Omega.{arith}
 use mathlib.Core.Path.{◌≡◌, refl, ap, ◌∙◌}
 use Prim.Native.Nat.{ℕ, suc, ◌+◌, ◌*◌}
-use borrow.Author.Rules.{rules}
 use Rattle.store.proofs.queues.join.Goals as goal
 
 one_more : (n : ℕ) → n + 1 ≡ suc n

@@ -2,7 +2,6 @@ use mathlib.Core.Path.{ap, ◌∙◌}
 use native.Mathlib.Omega.{arith}
 use Rattle.words.specs.Contents.{contents, packet_at}
 use Rattle.store.proofs.Loading.{head_at, head_facts, loaded_become}
-use borrow.Author.Rules.{rules}
 use Rattle.store.proofs.queues.load_from.Goals as goal
 
 pub place_of-requires : goal.place_of-requires

@@ -2,7 +2,6 @@ use Rattle.words.proofs.Counts.{sound_fitting}
 use Rattle.store.proofs.Loading.{busy_become, idle_become}
 use Rattle.words.specs.Contents.{contents}
 use native.Mathlib.Omega.{arith}
-use borrow.Author.Rules.{rules}
 use Rattle.store.proofs.queues.load_link.Goals as goal
 
 pub bounds-ws-206 : goal.bounds-ws-206
@@ -29,8 +28,8 @@ returns-then-largest_factor-tag c =
 pub load_from-requires : goal.load_from-requires
 unfolding contents
 load_from-requires c = (
-      c.requires,
-      c.lowest_tag-tag.ensures.0,
-      omega (arith, c.if-largest_factor-tag.false, c.largest_factor.ensures.0),
-      c.if-ws-ne0.false,
-    )
+  c.requires,
+  c.lowest_tag-tag.ensures.0,
+  omega (arith, c.if-largest_factor-tag.false, c.largest_factor.ensures.0),
+  c.if-ws-ne0.false,
+)

@@ -10,7 +10,7 @@ use Rattle.words.specs.Places.{place_of}
 use Rattle.words.specs.Contents.{contents, settings_at, turns_at, queue_at, queues_at}
 use native.Mathlib.Omega.{arith}
 use mathlib.Core.Path.{◌≡◌, sym, ap, ◌∙◌}
-use Prim.Native.Nat.{ℕ, suc, ◌+◌, ◌-◌, ◌≤◌}
+use Prim.Native.Nat.{ℕ, suc, ◌+◌, ◌-◌}
 use Rattle.store.proofs.queues.lowest_tag.Goals as goal
 
 pub largest_factor-count-requires : goal.largest_factor-count-requires

@@ -1,16 +1,10 @@
-use Rattle.meaning.specs.declared.Packet.{Packet}
-use mathlib.Core.List.{List}
 use Rattle.meaning.specs.Numbers.{largest_factor}
 use Rattle.store.specs.StoreChanges.{lowest_tag}
-use Rattle.words.proofs.Same.{queue_tagged_at}
-use Rattle.store.proofs.QueueLaws.{lowest_next, lowest_stop, lowest_end}
 use Rattle.laws.specs.Series.{series}
-use lib.ListN.{length}
 use Rattle.words.specs.Places.{place_of}
-use Rattle.words.specs.Contents.{contents, settings_at, turns_at, queue_at, queues_at}
-use native.Mathlib.Omega.{arith}
-use mathlib.Core.Path.{◌≡◌, sym, ap, ◌∙◌}
-use Prim.Native.Nat.{ℕ, suc, ◌+◌, ◌-◌, ◌≤◌}
+use Rattle.words.specs.Contents.{settings_at, turns_at, queue_at, queues_at}
+use mathlib.Core.Path.{◌≡◌}
+use Prim.Native.Nat.{suc, ◌+◌, ◌-◌, ◌≤◌}
 use Rattle.store.proofs.queues.lowest_tag.Given as goal
 
 abbrev pub invariant-loop-tag : goal.invariant-loop-tag

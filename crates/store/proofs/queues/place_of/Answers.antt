@@ -4,7 +4,6 @@ use Rattle.words.specs.Places.{place_of}
 use native.Mathlib.Omega.{arith}
 use mathlib.Core.Path.{ap}
 use Prim.Native.Nat.{◌+◌, ◌%◌}
-use borrow.Author.Rules.{rules}
 use Rattle.store.proofs.queues.place_of.Goals as goal
 
 pub returns : goal.returns

@@ -5,7 +5,6 @@ use Rattle.store.proofs.QueueLaws.{zero_waits_taken, zero_waits}
 use Rattle.store.proofs.Loading.{link_free, link_busy}
 use Rattle.words.specs.Contents.{contents}
 use mathlib.Core.Path.{sym, ap, ◌∙◌}
-use borrow.Author.Rules.{rules}
 use Rattle.store.proofs.queues.tag_zero_waits.Goals as goal
 
 pub returns-then-ws-eq0 : goal.returns-then-ws-eq0

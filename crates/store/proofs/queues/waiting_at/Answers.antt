@@ -4,7 +4,6 @@ use Rattle.words.specs.Contents.{contents}
 use native.Mathlib.Omega.{arith}
 use mathlib.Core.Path.{sym, ap, ◌∙◌}
 use Prim.Native.Nat.{◌+◌}
-use borrow.Author.Rules.{rules}
 use Rattle.store.proofs.queues.waiting_at.Goals as goal
 
 pub place_of-requires : goal.place_of-requires

@@ -3,7 +3,6 @@ use Rattle.tables.proofs.SmallChanges.{accepted_become}
 use Rattle.words.specs.Places.{word, accepted_at}
 use Rattle.words.specs.Contents.{contents}
 use Prim.Native.Nat.{◌+◌}
-use borrow.Author.Rules.{rules}
 use Rattle.tables.proofs.counter.count_accepted.Goals as goal
 
 pub returns : goal.returns

@@ -1,5 +1,4 @@
 use Rattle.tables.proofs.PassedTo.{pass_become}
-use borrow.Author.Rules.{rules}
 use Rattle.tables.proofs.counter.pass_to.Goals as goal
 
 pub returns : goal.returns

@@ -2,7 +2,6 @@ use native.Mathlib.Numerals.{add-one}
 use Rattle.tables.proofs.SmallChanges.{raise_become}
 use Rattle.words.specs.Places.{word, counter_at}
 use Prim.Native.Nat.{◌+◌}
-use borrow.Author.Rules.{rules}
 use Rattle.tables.proofs.counter.raise_counter.Goals as goal
 
 pub returns : goal.returns

@@ -1,7 +1,6 @@
 use mathlib.Core.Path.{sym, ap}
 use Rattle.words.specs.Contents.{contents, link_of}
 use Rattle.words.specs.Places.{word, left_at}
-use borrow.Author.Rules.{rules}
 use Rattle.tables.proofs.link.read_link.Goals as goal
 
 pub returns : goal.returns

@@ -2,7 +2,6 @@ use Rattle.tables.proofs.LinkWritten.{link_written}
 use lib.ListN.{length-set}
 use Rattle.tables.proofs.SmallChanges.{link_become}
 use native.Mathlib.Omega.{arith}
-use borrow.Author.Rules.{rules}
 use Rattle.tables.proofs.link.write_link.Goals as goal
 
 pub write_packet-requires : goal.write_packet-requires

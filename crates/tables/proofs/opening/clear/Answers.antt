@@ -2,10 +2,9 @@ use Rattle.tables.specs.Opening.{cleared}
 use lib.ListN.{length-set}
 use native.Mathlib.Numerals.{add-one}
 use Rattle.tables.proofs.NewBox.{cleared_next}
-use lib.ListN.{length, set}
+use lib.ListN.{set}
 use native.Mathlib.Omega.{arith}
 use mathlib.Core.Path.{◌≡◌, refl, ap, ◌∙◌}
-use Prim.Native.Nat.{◌-◌, ◌≤◌}
 use Rattle.tables.proofs.opening.clear.Goals as goal
 
 pub loop-i-init : goal.loop-i-init

@@ -1,10 +1,6 @@
 use Rattle.tables.specs.Opening.{cleared}
-use lib.ListN.{length-set}
-use native.Mathlib.Numerals.{add-one}
-use Rattle.tables.proofs.NewBox.{cleared_next}
-use lib.ListN.{length, set}
-use native.Mathlib.Omega.{arith}
-use mathlib.Core.Path.{◌≡◌, refl, ap, ◌∙◌}
+use lib.ListN.{length}
+use mathlib.Core.Path.{◌≡◌}
 use Prim.Native.Nat.{◌-◌, ◌≤◌}
 use Rattle.tables.proofs.opening.clear.Given as goal
 

@@ -7,10 +7,9 @@ use Rattle.meaning.specs.Calls.{opening_answer}
 use Rattle.meaning.specs.Numbers.{settings_allowed}
 use Rattle.tables.specs.Opening.{asked, after_opening, opened}
 use mathlib.Core.Bool.{true, false}
-use borrow.Author.Tests.{lt-ltb, le-ltb, not-true, not-false}
+use borrow.Author.Tests.{lt-ltb, le-ltb}
 use native.Mathlib.Omega.{arith}
 use mathlib.Core.Path.{◌≡◌, sym, ap, ◌∙◌}
-use borrow.Author.Rules.{rules}
 use Rattle.tables.proofs.opening.open.Goals as goal
 
 pub returns-then-not-settings_allowed : goal.returns-then-not-settings_allowed

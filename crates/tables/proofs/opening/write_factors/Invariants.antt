@@ -1,11 +1,7 @@
-use mathlib.Core.List.{◌++◌}
-use lib.Seq.{paste, paste-zero, paste-suc, take-length}
-use lib.ListN.{length-set}
-use native.Mathlib.Numerals.{add-one}
-use lib.ListN.{length, get_or, take, drop, set}
-use native.Mathlib.Omega.{arith}
-use mathlib.Core.Path.{◌≡◌, refl, ap, ◌∙◌}
-use Prim.Native.Nat.{◌+◌, ◌-◌, ◌≤◌}
+use lib.Seq.{paste}
+use lib.ListN.{length}
+use mathlib.Core.Path.{◌≡◌}
+use Prim.Native.Nat.{◌-◌, ◌≤◌}
 use Rattle.words.specs.Places.{factors_at}
 use Rattle.tables.proofs.opening.write_factors.Given as goal
 

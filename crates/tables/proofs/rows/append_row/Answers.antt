@@ -3,7 +3,6 @@ use native.Mathlib.Numerals.{add-one}
 use Rattle.tables.proofs.RowChanges.{append_become}
 use native.Mathlib.Omega.{arith}
 use Prim.Native.Nat.{◌+◌, ◌*◌}
-use borrow.Author.Rules.{rules}
 use Rattle.tables.proofs.rows.append_row.Goals as goal
 
 pub returns : goal.returns

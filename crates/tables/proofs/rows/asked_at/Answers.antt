@@ -1,6 +1,5 @@
 use mathlib.Core.Path.{refl}
 use Rattle.words.specs.Contents.{standing_at}
-use borrow.Author.Rules.{rules}
 use Rattle.tables.proofs.rows.asked_at.Goals as goal
 
 pub returns : goal.returns

@@ -3,7 +3,6 @@ use Rattle.words.specs.Contents.{standing_at}
 use Rattle.words.specs.Places.{rows_at}
 use mathlib.Core.Path.{sym, ap, ◌∙◌}
 use Prim.Native.Nat.{◌+◌, ◌*◌, ◌-◌}
-use borrow.Author.Rules.{rules}
 use Rattle.tables.proofs.rows.read_row.Goals as goal
 
 pub returns : goal.returns

@@ -1,7 +1,6 @@
 use Rattle.words.proofs.PutContents.{row_count}
 use mathlib.Core.Path.{sym}
 use Rattle.words.specs.Contents.{contents}
-use borrow.Author.Rules.{rules}
 use Rattle.tables.proofs.rows.standing_count.Goals as goal
 
 pub returns : goal.returns

@@ -1,7 +1,4 @@
 use Rattle.tables.proofs.RowChanges.{allowance_become}
-use lib.ListN.{length-set}
-use native.Mathlib.Omega.{arith}
-use borrow.Author.Rules.{rules}
 use Rattle.tables.proofs.rows.write_allowance.Goals as goal
 
 pub returns : goal.returns

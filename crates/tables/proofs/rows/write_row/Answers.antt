@@ -1,7 +1,4 @@
-use lib.ListN.{length-set}
 use Rattle.tables.proofs.RowChanges.{row_stored}
-use native.Mathlib.Omega.{arith}
-use borrow.Author.Rules.{rules}
 use Rattle.tables.proofs.rows.write_row.Goals as goal
 
 pub returns : goal.returns

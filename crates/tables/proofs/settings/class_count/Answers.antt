@@ -2,7 +2,6 @@ use Rattle.words.proofs.PutContents.{class_count_lem}
 use Rattle.meaning.specs.Numbers.{class_count}
 use Rattle.words.specs.Contents.{contents}
 use mathlib.Core.Path.{sym}
-use borrow.Author.Rules.{rules}
 use Rattle.tables.proofs.settings.class_count.Goals as goal
 
 pub returns : goal.returns

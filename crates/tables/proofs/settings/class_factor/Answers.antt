@@ -3,7 +3,6 @@ use Rattle.words.specs.Places.{word, factors_at}
 use Rattle.words.specs.Contents.{contents}
 use mathlib.Core.Path.{sym, ap, ◌∙◌}
 use Prim.Native.Nat.{◌+◌, ◌-◌}
-use borrow.Author.Rules.{rules}
 use Rattle.tables.proofs.settings.class_factor.Goals as goal
 
 pub returns : goal.returns

@@ -1,6 +1,5 @@
 use Rattle.words.specs.Contents.{contents, settings_at}
 use mathlib.Core.Path.{refl}
-use borrow.Author.Rules.{rules}
 use Rattle.tables.proofs.settings.cycle.Goals as goal
 
 pub returns : goal.returns

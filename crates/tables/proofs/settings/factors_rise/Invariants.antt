@@ -1,12 +1,7 @@
-use lib.ListN.{drop_of_length-le}
-use native.Mathlib.Numerals.{add-one}
 use Rattle.meaning.specs.Numbers.{rising_above}
-use lib.Seq.{drop-cons}
-use lib.ListN.{length, get_or, drop}
-use borrow.Author.Tests.{lt-ltb, le-ltb}
-use native.Mathlib.Omega.{arith}
-use mathlib.Core.Path.{◌≡◌, refl, sym, ap, ◌∙◌}
-use Prim.Native.Nat.{◌+◌, ◌-◌, ◌≤◌}
+use lib.ListN.{length, drop}
+use mathlib.Core.Path.{◌≡◌}
+use Prim.Native.Nat.{◌-◌, ◌≤◌}
 use Rattle.tables.proofs.settings.factors_rise.Given as goal
 
 abbrev pub invariant-loop-i : goal.invariant-loop-i

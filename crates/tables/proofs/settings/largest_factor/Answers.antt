@@ -2,7 +2,6 @@ use Prim.Native.Nat.{◌+◌, ◌-◌}
 use Rattle.words.proofs.TableReads.{largest_at}
 use Rattle.words.specs.Places.{word, factors_at}
 use mathlib.Core.Path.{sym, ap, ◌∙◌}
-use borrow.Author.Rules.{rules}
 use Rattle.tables.proofs.settings.largest_factor.Goals as goal
 
 pub returns : goal.returns

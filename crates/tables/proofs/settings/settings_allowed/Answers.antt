@@ -5,11 +5,10 @@ use lib.ListN.{length, get_or}
 use lib.Dec.{leb}
 use Rattle.laws.specs.Tests.{within, within_facts}
 use mathlib.Core.Bool.{true, false, and-false}
-use borrow.Author.Tests.{le-leb, lt-leb, not-true, not-false}
+use borrow.Author.Tests.{le-leb, lt-leb}
 use native.Mathlib.Omega.{arith}
 use mathlib.Core.Path.{◌≡◌, sym, ◌∙◌}
 use Prim.Native.Nat.{◌-◌}
-use borrow.Author.Rules.{rules}
 use Rattle.tables.proofs.settings.settings_allowed.Goals as goal
 
 pub returns-then-not-is_within : goal.returns-then-not-is_within

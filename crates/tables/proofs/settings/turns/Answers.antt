@@ -1,5 +1,4 @@
 use Rattle.words.specs.Contents.{turns_at}
-use borrow.Author.Rules.{rules}
 use Rattle.tables.proofs.settings.turns.Goals as goal
 
 pub returns : goal.returns

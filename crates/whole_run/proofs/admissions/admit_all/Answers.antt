@@ -1,14 +1,12 @@
-use Prim.Native.Nat.{◌-◌, ◌≤◌}
 use mathlib.Core.Path.{◌≡◌, refl, ap, ◌∙◌}
 use native.Mathlib.Omega.{arith}
-use lib.ListN.{length, length-set}
+use lib.ListN.{length-set}
 use Rattle.meaning.specs.declared.Admitted.{Admitted}
 use Rattle.meaning.specs.Answers.{told, admitted}
 use Rattle.meaning.specs.Calls.{admission_answer}
 use Rattle.words.specs.Contents.{contents}
 use Rattle.answers.proofs.Tells.{told_number, told_field}
-use Rattle.whole_run.proofs.Admitting.{Admitting, admit_start, admit_room, admit_on, admit_end}
-use borrow.Author.Rules.{rules}
+use Rattle.whole_run.proofs.Admitting.{admit_start, admit_room, admit_on, admit_end}
 use Rattle.whole_run.proofs.admissions.admit_all.Goals as goal
 
 pub loop-i-init : goal.loop-i-init
@@ -31,7 +29,7 @@ put_admit-at-requires c =
     let below = c.loop-i-test.true in
     let read = c.connection-c in
     let answer : c.tell_admitted-told.result ≡ told (admitted (admission_answer (contents c.loop-i.ws) c.connection-c.result)) =
-        c.tell_admitted-told.ensures ∙ ap (λ (a : Admitted). told (admitted a)) c.admit_sound.ensures.0 in
+    c.tell_admitted-told.ensures ∙ ap (λ (a : Admitted). told (admitted a)) c.admit_sound.ensures.0 in
     admit_room c.args.table.now loop.i _ read.ensures below c.requires.room loop.invariant.4 _ _ _ (omega arith)
     (told_number _ answer) (told_field _ answer 1)
 
@@ -59,7 +57,7 @@ loop-i-preserved c =
     let read = c.connection-c in
     let admission = c.admit_sound in
     let answer : c.tell_admitted-told.result ≡ told (admitted (admission_answer (contents c.loop-i.ws) c.connection-c.result)) =
-        c.tell_admitted-told.ensures ∙ ap (λ (a : Admitted). told (admitted a)) c.admit_sound.ensures.0 in
+    c.tell_admitted-told.ensures ∙ ap (λ (a : Admitted). told (admitted a)) c.admit_sound.ensures.0 in
     let line = c.put_admit-at in (
       omega (arith, below),
       omega (arith, i.1, admission.auto.ws),

@@ -1,7 +1,6 @@
-use Prim.Native.Nat.{ℕ, ◌-◌, ◌≤◌}
+use Prim.Native.Nat.{ℕ}
 use mathlib.Core.Path.{◌≡◌, refl, ap, subst, ◌∙◌}
 use native.Mathlib.Omega.{arith}
-use lib.ListN.{length}
 use Rattle.meaning.specs.declared.Offered.{Offered}
 use Rattle.meaning.specs.Answers.{told, offered}
 use Rattle.meaning.specs.Calls.{offer_answer, after_offer}
@@ -9,8 +8,7 @@ use Rattle.meaning.specs.Run.{number_of}
 use Rattle.words.specs.Contents.{contents}
 use Rattle.multiplexer.specs.Promised.{Leaves}
 use Rattle.answers.proofs.Tells.{told_number, told_field}
-use Rattle.whole_run.proofs.Offering.{Offering, offer_start, offer_room, offer_on, offer_end}
-use borrow.Author.Rules.{rules}
+use Rattle.whole_run.proofs.Offering.{offer_start, offer_room, offer_on, offer_end}
 use Rattle.whole_run.proofs.offers.offer_all.Goals as goal
 
 pub loop-i-init : goal.loop-i-init
@@ -37,9 +35,9 @@ put_offer-at-requires c =
     let below = c.loop-i-test.true in
     let read = c.arrival-a in
     let answer : c.tell_offered-told.result ≡
-        told (offered (offer_answer (contents c.loop-i.ws) (number_of c.args.numbers.now c.arrival-a.result.place) c.arrival-a.result.units)) =
-        c.tell_offered-told.ensures ∙ ap (λ (a : Offered). told (offered a))
-        (c.offer_sound.ensures.0 ∙ ap (λ (n : ℕ). offer_answer (contents c.loop-i.ws) n c.arrival-a.result.units) c.number_of.ensures) in
+    told (offered (offer_answer (contents c.loop-i.ws) (number_of c.args.numbers.now c.arrival-a.result.place) c.arrival-a.result.units)) =
+    c.tell_offered-told.ensures ∙ ap (λ (a : Offered). told (offered a))
+    (c.offer_sound.ensures.0 ∙ ap (λ (n : ℕ). offer_answer (contents c.loop-i.ws) n c.arrival-a.result.units) c.number_of.ensures) in
     offer_room c.args.numbers.now c.args.due.now c.args.from loop.i _ read.ensures below c.requires.room loop.invariant.3
     _ _ _ (omega arith) (told_number _ answer) (told_field _ answer 0)
 
@@ -60,9 +58,9 @@ loop-i-preserved c =
     let number = c.number_of in
     let offer = c.offer_sound in
     let answer : c.tell_offered-told.result ≡
-        told (offered (offer_answer (contents c.loop-i.ws) (number_of c.args.numbers.now c.arrival-a.result.place) c.arrival-a.result.units)) =
-        c.tell_offered-told.ensures ∙ ap (λ (a : Offered). told (offered a))
-        (c.offer_sound.ensures.0 ∙ ap (λ (n : ℕ). offer_answer (contents c.loop-i.ws) n c.arrival-a.result.units) c.number_of.ensures) in
+    told (offered (offer_answer (contents c.loop-i.ws) (number_of c.args.numbers.now c.arrival-a.result.place) c.arrival-a.result.units)) =
+    c.tell_offered-told.ensures ∙ ap (λ (a : Offered). told (offered a))
+    (c.offer_sound.ensures.0 ∙ ap (λ (n : ℕ). offer_answer (contents c.loop-i.ws) n c.arrival-a.result.units) c.number_of.ensures) in
     let line = c.put_offer-at in
     let box = contents loop.ws in
     let units = read.result.units in

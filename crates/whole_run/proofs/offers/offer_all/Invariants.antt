@@ -1,16 +1,8 @@
-use Prim.Native.Nat.{ℕ, ◌-◌, ◌≤◌}
-use mathlib.Core.Path.{◌≡◌, refl, ap, subst, ◌∙◌}
-use native.Mathlib.Omega.{arith}
+use Prim.Native.Nat.{◌-◌, ◌≤◌}
+use mathlib.Core.Path.{◌≡◌}
 use lib.ListN.{length}
-use Rattle.meaning.specs.declared.Offered.{Offered}
-use Rattle.meaning.specs.Answers.{told, offered}
-use Rattle.meaning.specs.Calls.{offer_answer, after_offer}
-use Rattle.meaning.specs.Run.{number_of}
 use Rattle.words.specs.Contents.{contents}
-use Rattle.multiplexer.specs.Promised.{Leaves}
-use Rattle.answers.proofs.Tells.{told_number, told_field}
-use Rattle.whole_run.proofs.Offering.{Offering, offer_start, offer_room, offer_on, offer_end}
-use borrow.Author.Rules.{rules}
+use Rattle.whole_run.proofs.Offering.{Offering}
 use Rattle.whole_run.proofs.offers.offer_all.Given as goal
 
 abbrev pub invariant-loop-i : goal.invariant-loop-i

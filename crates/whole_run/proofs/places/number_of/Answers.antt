@@ -3,7 +3,6 @@ use native.Mathlib.Omega.{arith}
 use lib.ListN.{get_or}
 use Prim.Native.Nat.{◌-◌}
 use Rattle.whole_run.proofs.Lookups.{none_zero, none_past, number_there}
-use borrow.Author.Rules.{rules}
 use Rattle.whole_run.proofs.places.number_of.Goals as goal
 
 pub returns-then-at-eq0 : goal.returns-then-at-eq0

@@ -1,9 +1,6 @@
-use Prim.Native.Nat.{◌-◌, ◌≤◌}
 use mathlib.Core.Path.{refl}
 use native.Mathlib.Omega.{arith}
-use lib.ListN.{length}
-use Rattle.whole_run.proofs.Lookups.{Looked, found, passed, not_found}
-use borrow.Author.Rules.{rules}
+use Rattle.whole_run.proofs.Lookups.{found, passed, not_found}
 use Rattle.whole_run.proofs.places.place_of.Goals as goal
 
 pub loop-i-init : goal.loop-i-init

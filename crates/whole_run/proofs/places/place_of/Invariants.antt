@@ -1,9 +1,6 @@
 use Prim.Native.Nat.{◌-◌, ◌≤◌}
-use mathlib.Core.Path.{refl}
-use native.Mathlib.Omega.{arith}
 use lib.ListN.{length}
-use Rattle.whole_run.proofs.Lookups.{Looked, found, passed, not_found}
-use borrow.Author.Rules.{rules}
+use Rattle.whole_run.proofs.Lookups.{Looked}
 use Rattle.whole_run.proofs.places.place_of.Given as goal
 
 abbrev pub invariant-loop-i : goal.invariant-loop-i

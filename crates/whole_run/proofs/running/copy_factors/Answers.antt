@@ -1,10 +1,8 @@
-use Prim.Native.Nat.{◌-◌, ◌≤◌}
-use mathlib.Core.Path.{◌≡◌, refl}
+use mathlib.Core.Path.{refl}
 use native.Mathlib.Omega.{arith}
-use lib.ListN.{length, take, length-set}
-use Rattle.meaning.specs.Plan.{words_of, factor_at, table}
+use lib.ListN.{length-set}
+use Rattle.meaning.specs.Plan.{table}
 use Rattle.whole_run.proofs.Factors.{factor_on, factors_end}
-use borrow.Author.Rules.{rules}
 use Rattle.whole_run.proofs.running.copy_factors.Goals as goal
 
 pub loop-i-init : goal.loop-i-init
@@ -15,11 +13,11 @@ loop-i-smaller c = simp length-set (omega (arith, c.loop-i-test.true))
 
 pub loop-i-preserved : goal.loop-i-preserved
 loop-i-preserved c = (
-      simp length-set (omega (arith, c.loop-i-test.true)),
-      simp length-set (omega (arith, c.loop-i.invariant.1)),
-      factor_on _ _ _
-          _ c.loop-i-test.true c.factor.ensures c.loop-i.invariant.2,
-    )
+  simp length-set (omega (arith, c.loop-i-test.true)),
+  simp length-set (omega (arith, c.loop-i.invariant.1)),
+  factor_on _ _ _
+      _ c.loop-i-test.true c.factor.ensures c.loop-i.invariant.2,
+)
 
 pub returns : goal.returns
 returns c =

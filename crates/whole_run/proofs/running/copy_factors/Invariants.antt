@@ -1,10 +1,7 @@
 use Prim.Native.Nat.{◌-◌, ◌≤◌}
-use mathlib.Core.Path.{◌≡◌, refl}
-use native.Mathlib.Omega.{arith}
-use lib.ListN.{length, take, length-set}
+use mathlib.Core.Path.{◌≡◌}
+use lib.ListN.{length, take}
 use Rattle.meaning.specs.Plan.{words_of, factor_at, table}
-use Rattle.whole_run.proofs.Factors.{factor_on, factors_end}
-use borrow.Author.Rules.{rules}
 use Rattle.whole_run.proofs.running.copy_factors.Given as goal
 
 abbrev pub invariant-loop-i : goal.invariant-loop-i

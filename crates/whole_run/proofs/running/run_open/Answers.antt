@@ -4,7 +4,6 @@ use native.Mathlib.Omega.{arith}
 use lib.ListN.{length}
 use lib.Seq.{length-take-le}
 use Rattle.whole_run.proofs.Whole.{connections_few, sorted, admissions_room, counter_zero, rest_room, rest_put}
-use borrow.Author.Rules.{rules}
 use Rattle.whole_run.proofs.running.run_open.Goals as goal
 
 pub admit_all-at-requires : goal.admit_all-at-requires

@@ -1,6 +1,5 @@
 use native.Mathlib.Omega.{arith}
 use Rattle.whole_run.proofs.Texts.{too_short, printed_whole}
-use borrow.Author.Rules.{rules}
 use Rattle.whole_run.proofs.running.run_plan.Goals as goal
 
 pub returns-then-out-lt420000 : goal.returns-then-out-lt420000

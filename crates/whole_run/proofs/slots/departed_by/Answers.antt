@@ -2,7 +2,6 @@ use mathlib.Core.Path.{sym, ap}
 use mathlib.Core.List.{[]}
 use lib.ListN.{length}
 use Rattle.meaning.specs.Run.{departures}
-use borrow.Author.Rules.{rules}
 use Rattle.whole_run.proofs.slots.departed_by.Goals as goal
 
 pub returns-in-Idle : goal.returns-in-Idle

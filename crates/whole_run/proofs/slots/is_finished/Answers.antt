@@ -1,7 +1,6 @@
 use mathlib.Core.Path.{◌∙◌}
 use native.Mathlib.Omega.{arith}
 use Rattle.whole_run.proofs.Passing.{not_yet, all_passed}
-use borrow.Author.Rules.{rules}
 use Rattle.whole_run.proofs.slots.is_finished.Goals as goal
 
 pub returns-then-passed-table : goal.returns-then-passed-table

@@ -3,8 +3,7 @@ use native.Mathlib.Omega.{arith}
 use borrow.Author.Tests.{not-false}
 use Rattle.words.proofs.Counts.{sound_fitting}
 use Rattle.whole_run.proofs.EmptyBox.{none_waiting}
-use Rattle.whole_run.proofs.Idle.{stays, passes_idle}
-use borrow.Author.Rules.{rules}
+use Rattle.whole_run.proofs.Idle.{passes_idle}
 use Rattle.whole_run.proofs.slots.pass_idle.Goals as goal
 
 pub counter-requires : goal.counter-requires

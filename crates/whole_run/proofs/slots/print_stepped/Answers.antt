@@ -2,7 +2,6 @@ use mathlib.Core.Path.{sym, ap, subst}
 use Rattle.meaning.specs.Run.{departures}
 use Rattle.lines.specs.Put.{Room, Put}
 use Rattle.whole_run.proofs.Stepping.{departed_line, no_line}
-use borrow.Author.Rules.{rules}
 use Rattle.whole_run.proofs.slots.print_stepped.Goals as goal
 
 pub put_depart-requires : goal.put_depart-requires

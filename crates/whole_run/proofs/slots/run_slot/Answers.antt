@@ -3,7 +3,6 @@ use Rattle.words.specs.Contents.{contents}
 use Rattle.words.proofs.Counts.{sound_fitting}
 use Rattle.answers.proofs.Tells.{told_number}
 use Rattle.whole_run.proofs.SlotRun.{due_few, offers_room, step_room, slot_runs}
-use borrow.Author.Rules.{rules}
 use Rattle.whole_run.proofs.slots.run_slot.Goals as goal
 
 pub counter-slot-requires : goal.counter-slot-requires

@@ -1,13 +1,9 @@
-use mathlib.Core.Path.{◌≡◌, refl, sym, ◌∙◌}
-use native.Mathlib.Omega.{arith}
+use mathlib.Core.Path.{◌≡◌}
 use lib.ListN.{length}
-use borrow.Author.Tests.{not-true, not-false}
 use Rattle.meaning.specs.Rest.{potential}
 use Rattle.words.specs.Contents.{contents}
-use Rattle.words.proofs.Counts.{sound_fitting}
 use Rattle.whole_run.specs.Parts.{arrivals_placed}
-use Rattle.whole_run.proofs.Going.{Going, going_start, going_on, going_later, departed_fits, falls, slot_room, stop_room, stop_put}
-use Rattle.whole_run.proofs.Going.{end_room, end_put}
+use Rattle.whole_run.proofs.Going.{Going}
 use Rattle.whole_run.proofs.slots.run_slots.Given as goal
 
 abbrev pub invariant-loop-ws : goal.invariant-loop-ws

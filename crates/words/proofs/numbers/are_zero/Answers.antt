@@ -4,8 +4,7 @@ use Rattle.laws.specs.Series.{every_stop, every_next, every_end}
 use Rattle.words.specs.Sound.{zeros}
 use borrow.Author.Tests.{eq-eqb, ne_eqb}
 use native.Mathlib.Omega.{arith}
-use mathlib.Core.Path.{◌≡◌, refl, sym, ◌∙◌}
-use Prim.Native.Nat.{◌-◌, ◌≤◌}
+use mathlib.Core.Path.{sym, ◌∙◌}
 use Rattle.words.proofs.numbers.are_zero.Goals as goal
 
 pub returns-then-ws-i-ne0 : goal.returns-then-ws-i-ne0

@@ -1,10 +1,5 @@
-use Rattle.words.specs.Places.{word}
-use lib.Dec.{eqb}
-use Rattle.laws.specs.Series.{every_stop, every_next, every_end}
 use Rattle.words.specs.Sound.{zeros}
-use borrow.Author.Tests.{eq-eqb, ne_eqb}
-use native.Mathlib.Omega.{arith}
-use mathlib.Core.Path.{◌≡◌, refl, sym, ◌∙◌}
+use mathlib.Core.Path.{◌≡◌}
 use Prim.Native.Nat.{◌-◌, ◌≤◌}
 use Rattle.words.proofs.numbers.are_zero.Given as goal
 

@@ -1,6 +1,5 @@
 use mathlib.Core.Path.{refl}
 use Rattle.words.specs.Contents.{packet_at}
-use borrow.Author.Rules.{rules}
 use Rattle.words.proofs.packets.read_packet.Goals as goal
 
 pub returns : goal.returns

@@ -1,7 +1,4 @@
-use lib.ListN.{length-set}
 use Rattle.words.proofs.Storing.{packet_stored}
-use native.Mathlib.Omega.{arith}
-use borrow.Author.Rules.{rules}
 use Rattle.words.proofs.packets.write_packet.Goals as goal
 
 pub returns : goal.returns
