@@ -1,28 +1,47 @@
 // The program: a plan on standard input, the lines of its run on standard output. Everything that matters is in `whole_run`.
 #![tactic(auto)]
 
-use libc::{STDIN_FILENO, STDOUT_FILENO};
+ghost use Rattle.std.specs.Prelude.{◌≤◌, length, IfOk};
+
+use anyhow::{Context, Result, bail};
 use meaning::Printed;
+use std::io;
+use std::io::{Read, Write};
 use whole_run::rooms::{plan_room, text_room};
 use whole_run::running::run_plan;
 
-// Writes the text; where it cannot be written, standard error says so.
-fn put_out(text: &[u8], size: usize) {
-    if size > text.len() {
-        return;
+// Reads until the room is full or the input ends, and says how many bytes at the room's start were read.
+fn read_full(from: &mut impl Read, room: &mut [u8]) -> io::Result<usize>
+    ensures { IfOk result (λ n. n ≤ length room.new) }
+{
+    let mut at = 0;
+    while at < room.len() {
+        let n = from.read(&mut room[at..])?;
+        if n == 0 {
+            break;
+        }
+        at += n;
     }
-    if !io::write_all(STDOUT_FILENO, &text[..size]) {
-        os::fail(b"standard output");
-    }
+    Ok(at)
 }
 
-fn main() {
+// Writes the text.
+fn put_out(to: &mut impl Write, text: &[u8], size: usize) -> io::Result<()> {
+    if size > text.len() {
+        return Ok(());
+    }
+    to.write_all(&text[..size])
+}
+
+// An input that cannot be read, and lines that cannot be written, end it with an error that says so on standard error.
+fn main(rt: HostRuntime) -> Result<()> {
     let mut plan = plan_room();
     let mut text = text_room();
-    let n = io::read_full(STDIN_FILENO, &mut plan);
-    let printed = run_plan(&plan[..n], &mut text);
-    match printed {
-        Printed::Written(size) => put_out(&text, size),
-        Printed::Refused(why) => os::fail(b"room for the text"),
+    let n = read_full(&mut rt.stdin(), &mut plan).context("standard input")?;
+    match run_plan(&plan[..n], &mut text) {
+        Printed::Written(size) => {
+            put_out(&mut rt.stdout(), &text, size).context("standard output")
+        }
+        Printed::Refused(_) => bail!("room for the text"),
     }
 }
