@@ -10,8 +10,7 @@ if [ "${1:-}" = --equal ]; then
     equal=(--equal)
     shift
 fi
-library=$root/target/staticlib/libcabinet.a
-"$root/tests/cabinet-library" >/dev/null
+library=$("$root/tools/built" cabinet)
 sources=()
 while [ $# -gt 0 ] && [ "$1" != -- ]; do
     sources+=("$here/$1")

@@ -8,9 +8,8 @@ root=$here/..
 rounds=${1:-15}
 work=$(mktemp -d)
 trap 'rm -rf "$work"' EXIT
-gateway=$root/target/bin/gateway
 # Proved and built where it is not, or has changed since: what is timed is the program of this source.
-(cd "$root" && rt check gateway >"$work/log" 2>&1) || { cat "$work/log" >&2; exit 1; }
+gateway=$("$root/tools/built" gateway)
 
 mkdir "$work/timed" "$work/other"
 "$here/whole_run.py" plans "$work/timed"

@@ -1,7 +1,7 @@
 /*
- * A cabinet's loop in C: a box on one link, two boards, ten slots. Build it with `rt staticlib cabinet` and
+ * A cabinet's loop in C: a box on one link, two boards, ten slots. Build it with `tools/built cabinet` and
  *
- *     gcc -std=c99 -Iinclude examples/cabinet.c target/staticlib/libcabinet.a -o cabinet
+ *     gcc -std=c99 -Iinclude examples/cabinet.c crates/cabinet/out/libcabinet.a -o cabinet
  *
  * It prints what examples/cabinet.expected holds; `tests/cabinet-example` compares the two. An answer that a cabinet does not expect ends
  * the program with a message and a status of 1.

@@ -1,5 +1,5 @@
 /*
- * Zeppilorn for C and C++: the box of one link, plan files, and the whole run of a plan. The library is target/staticlib/libcabinet.a (`rt staticlib cabinet`), for
+ * Zeppilorn for C and C++: the box of one link, plan files, and the whole run of a plan. The library is crates/cabinet/out/libcabinet.a (`tools/built cabinet`), for
  * x86-64 Linux; examples/cabinet.c is a program to copy. Which theorem holds each sentence stands in docs/PROMISES.md.
  *
  * The caller lends all memory; the library keeps none, so each box may lie where the caller likes, and two boxes know nothing of each
