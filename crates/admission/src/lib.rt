@@ -3,7 +3,7 @@
 
 ghost use Rattle.std.specs.Prelude.{◌≡◌, ◌≤◌, ◌<◌, max, ◌&&◌, ◌+◌, leb, ltb};
 ghost use Rattle.meaning.specs.Numbers.{bound};
-ghost use Rattle.meaning.specs.Envelope.{envelope, delayed as delayedIs};
+ghost use Rattle.meaning.specs.Envelope.{envelope, delayed as delayed_is};
 ghost use Rattle.meaning.specs.Admission.{term, rate as rate_is, twelve_range, finite_search};
 ghost use Rattle.words.specs.Places.{word, classes_at};
 ghost use Rattle.words.specs.Contents.{settings_at};
@@ -24,7 +24,7 @@ pub enum Found {
 // E(t - d): nothing where d is above t.
 fn delayed(c: Connection, d: u32, t: u32) -> u32
     requires { Small c × (t ≤ 6000) }
-    ensures { (result ≡ delayedIs (envelope c) d t) × (result ≤ 400000) }
+    ensures { (result ≡ delayed_is (envelope c) d t) × (result ≤ 400000) }
 {
     if t < d {
         return 0;

@@ -11,7 +11,7 @@ use lib.ListN.{length, length-map}
 use native.Mathlib.Omega.{arith}
 use Rattle.laws.specs.Tests.{within_facts}
 use Rattle.laws.specs.Putting.{Put, Same, same_refl}
-use Rattle.laws.specs.Lists.{get_d_member}
+use Rattle.laws.specs.Lists.{get_or_member}
 use Rattle.meaning.specs.Numbers.{factor}
 use Rattle.meaning.specs.declared.Standing.{Standing}
 use Rattle.meaning.specs.declared.Packet.{Packet}
@@ -32,7 +32,7 @@ use Rattle.guarantees.proofs.Moves.{new_packet, accepting}
 pub connection_member : (box : Box) (n : ℕ) → 1 ≤ n → n ≤ length box.standing → Memᴰ (connection box n) (connections box)
 unfolding connection connections
 connection_member box n h l =
-    get_d_member (map (λ (s : Standing). s.asked) box.standing) (n - 1) no_connection (rw length-map (omega arith))
+    get_or_member (map (λ (s : Standing). s.asked) box.standing) (n - 1) no_connection (rw length-map (omega arith))
 
 -- It keeps the table of numbers.
 pub connection_kept : (box : Box) → sound box ≡ true → (n : ℕ) → 1 ≤ n → n ≤ length box.standing

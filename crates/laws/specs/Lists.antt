@@ -20,10 +20,10 @@ placed_from n [] = []
 placed_from n (a ∷ l) = record { place = n; entry = a } ∷ placed_from (suc n) l
 
 -- An element that is read at an index below the length is in the list.
-pub get_d_member : {A : Type 0} (l : List A) (i : ℕ) (d : A) → i < length l → Memᴰ (get_or l i d) l
-get_d_member [] i d h = absurd (not-suc-le-zero h)
-get_d_member (a ∷ l) zero d h = Memᴰ.head refl
-get_d_member (a ∷ l) (suc i) d h = Memᴰ.tail (get_d_member l i d (le_of_suc-le-suc h))
+pub get_or_member : {A : Type 0} (l : List A) (i : ℕ) (d : A) → i < length l → Memᴰ (get_or l i d) l
+get_or_member [] i d h = absurd (not-suc-le-zero h)
+get_or_member (a ∷ l) zero d h = Memᴰ.head refl
+get_or_member (a ∷ l) (suc i) d h = Memᴰ.tail (get_or_member l i d (le_of_suc-le-suc h))
 
 -- An element of a list of lists is in them all joined.
 pub member_flatten : {A : Type 0} (ls : List (List A)) {l : List A} {a : A} → Memᴰ l ls → Memᴰ a l → Memᴰ a (flatten ls)

@@ -10,7 +10,7 @@ use lib.Seq.{map-set_same}
 use lib.Dec.{leb, ltb}
 use borrow.Author.Tests.{leb-false, lt-ltb, eq-eqb, ltb-true}
 use Rattle.laws.specs.Tests.{within, within_facts, every, every_at, every_all, every_set}
-use Rattle.laws.specs.Lists.{get_d_member, member_flatten}
+use Rattle.laws.specs.Lists.{get_or_member, member_flatten}
 use Rattle.meaning.specs.Numbers.{Settings, class_count, factor, largest_factor, connection_allowed, rising_above}
 use Rattle.meaning.specs.Numbers.{most_waiting}
 use Rattle.meaning.specs.Envelope.{full, conforms, charged, allowance_kept}
@@ -120,7 +120,7 @@ module _ (box : Box) (n : ℕ) (facts : SoundFacts box) (standing : stands box n
   pub row_stands : Memᴰ row box.standing
   row_stands =
       let k = number in
-      get_d_member box.standing (n - 1) (record { asked = no_connection; allowance = full no_connection }) (omega arith)
+      get_or_member box.standing (n - 1) (record { asked = no_connection; allowance = full no_connection }) (omega arith)
 
   -- The connection keeps the facts of the table of numbers.
   pub asked_allowed : ConnectionFacts box.settings (connection box n)
@@ -130,7 +130,7 @@ module _ (box : Box) (n : ℕ) (facts : SoundFacts box) (standing : stands box n
       let l : length (map (λ s. s.asked) box.standing) ≡ length box.standing = length-map box.standing (λ s. s.asked) in
       connection_facts box.settings (connection box n)
       (every_at (connection_allowed box.settings) (connections box) facts.connections_allowed
-      (get_d_member (connections box) (n - 1) no_connection (omega arith)))
+      (get_or_member (connections box) (n - 1) no_connection (omega arith)))
 
   -- The connection's allowance is in range.
   pub allowance_kept_lem : allowance_kept (connection box n) box.counter (allowance box n) ≡ true

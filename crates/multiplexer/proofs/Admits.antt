@@ -8,7 +8,7 @@ use lib.ListN.{length, get_or, length-map, get_or-map}
 use lib.Dec.{eqb}
 use borrow.Author.Tests.{le-leb, lt-leb}
 use Rattle.laws.specs.Tests.{within, every_at}
-use Rattle.laws.specs.Lists.{get_d_member}
+use Rattle.laws.specs.Lists.{get_or_member}
 use Rattle.laws.specs.Search.{Search}
 use Rattle.laws.specs.Series.{length_series, get_or_series}
 use Rattle.meaning.specs.declared.Refusal.{Refusal}
@@ -58,7 +58,7 @@ ready ws h =
           λ i l.
           subst (λ c. connection_allowed (settings_at ws) c ≡ true) (row_at ws i l)
           (every_at (connection_allowed (settings_at ws)) (connections (contents ws)) f.connections_allowed
-          (get_d_member (connections (contents ws)) i no_connection (let e = rows_are ws in omega arith)));
+          (get_or_member (connections (contents ws)) i no_connection (let e = rows_are ws in omega arith)));
     }
 
 -- "the set with the newcomer", as the search reads it.

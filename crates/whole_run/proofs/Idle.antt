@@ -8,7 +8,7 @@ use lib.ListN.{length, get_or, take, drop}
 use lib.Dec.{leb, ltb, eqb}
 use borrow.Author.Tests.{leb-true, ltb-true, lt-ltb, le-ltb, eqb-true}
 use Rattle.laws.specs.Tests.{every_at}
-use Rattle.laws.specs.Lists.{Placed, keep, placed_from, get_d_member}
+use Rattle.laws.specs.Lists.{Placed, keep, placed_from, get_or_member}
 use Rattle.meaning.specs.declared.Stepped.{Stepped}
 use Rattle.meaning.specs.Numbers.{last_slot}
 use Rattle.meaning.specs.Box.{Box, packets, sound}
@@ -124,7 +124,7 @@ module _ (bytes : List ℕ) (box : Box) (passed : ℕ) (walked : Walked bytes bo
         let n = length_arrivals_in bytes in
         leb-true next last_arrival_slot
         (every_at (λ (a : Arrival). leb a.slot last_arrival_slot) (arrivals_in bytes) sorted.none_exceeds
-        (get_d_member (arrivals_in bytes) passed no_arrival (omega (arith, n, remain))))
+        (get_or_member (arrivals_in bytes) passed no_arrival (omega (arith, n, remain))))
 
     -- From an empty box k slots may be passed, as far as the slot of the next arrival.
     passes : (k : ℕ) → box.counter + k ≤ next → Passes (arrivals_placed bytes) box (with_counter box (box.counter + k))
