@@ -1,2 +1,2 @@
--- What is told of a case is told of an answer that is this case.
+-- What the words of an answer say of it.
 pub mod Tells

@@ -1,17 +1,12 @@
--- What is told of a case is told of an answer that is this case.
+-- What the words of an answer say of it.
 use Prim.Native.Nat.{ℕ, suc}
-use mathlib.Core.Path.{◌≡◌, sym, ap, subst, ◌∙◌}
+use mathlib.Core.Path.{◌≡◌, ap, subst}
 use mathlib.Core.List.{List}
 use lib.ListN.{get_or}
 use mir.Syntax.{w32}
 use mir.Val.{Fits}
 use Rattle.meaning.specs.Answers.{Answer, told}
 use Rattle.answers.specs.Fitting.{FitWords}
-
--- Words that tell a case tell an answer that is this case.
-pub tells : {A : Type 0} (meaning : A → Answer) {answer case : A} {words : List ℕ} →
-    answer ≡ case → words ≡ told (meaning case) → words ≡ told (meaning answer)
-tells meaning e t = t ∙ ap (λ a. told (meaning a)) (sym e)
 
 -- A field of an answer that is this case fits the word that it is cast to.
 pub fits : {A : Type 0} (fields : A → List ℕ) {answer case : A} →

@@ -1,102 +1,79 @@
 // The number of an answer and its other result fields, one after another, computed here for lines, for C and for tests.
-#![tactic(auto)]
+// Every proof here opens the definition that it is about.
+#![tactic(auto, unfolding(meaning::specs::Answers::told, meaning::specs::Answers::success, meaning::specs::Answers::refusal, meaning::specs::Answers::failing_t, meaning::specs::Answers::header_fields, meaning::specs::Answers::opened, meaning::specs::Answers::admitted, meaning::specs::Answers::offered, meaning::specs::Answers::stepped, meaning::specs::Answers::plan_read, meaning::specs::Answers::plan_written, meaning::specs::Answers::printed))]
 
 ghost use Rattle.std.specs.Prelude.{◌≡◌, drop};
-ghost use Rattle.meaning.specs.Answers.{told, refusal_number, failing_t, opened, admitted, offered, stepped, plan_read, plan_written, printed};
+ghost use Rattle.meaning.specs.Answers.{told, failing_t, opened, admitted, offered, stepped, plan_read, plan_written, printed};
 ghost use Rattle.answers.specs.Fitting.{FitWords};
 
-use meaning::{Admitted, Offered, Opened, PlanRead, PlanWritten, Printed, Refusal, Stepped};
-
-// Document 01's number of a refusal.
-pub fn number_of(why: Refusal) -> u32
-    ensures { result ≡ refusal_number why }
-{
-    match why {
-        Refusal::NotSound => 1,
-        Refusal::SettingsOffRange => 2,
-        Refusal::ConnectionOffRange => 3,
-        Refusal::TableFull => 4,
-        Refusal::RateExceeded => 5,
-        Refusal::ConditionFails(t) => 6,
-        Refusal::NoConnection => 7,
-        Refusal::WrongLength => 8,
-        Refusal::NotFitting => 9,
-        Refusal::StoreFull => 10,
-        Refusal::TurnBlocked => 11,
-        Refusal::CounterEnded => 12,
-        Refusal::WrongSize => 13,
-        Refusal::WrongSum => 14,
-        Refusal::WrongLayout => 15,
-        Refusal::WrongSlots => 16,
-        Refusal::TooShort => 17,
-    }
-}
+use meaning::{Header, Refusal, Stepped};
 
 // What a refusal gives beside its number: 0, "but 6, which gives t".
 fn failing_t(why: Refusal) -> u32
     ensures { result ≡ failing_t why }
 {
-    if let Refusal::ConditionFails(t) = why {
-        t
-    } else {
-        0
+    match why {
+        Refusal::ConditionFails(t) => t,
+        _ => 0,
     }
 }
 
 // Opening has no other field.
-pub fn tell_opened(answer: Opened) -> [u32; 1]
+pub fn tell_opened(answer: Result<(), Refusal>) -> [u32; 1]
     ensures { result ≡ told (opened answer) }
 {
     match answer {
-        Opened::Done => [0],
-        Opened::Refused(why) => [number_of(why)],
+        Ok(()) => [0],
+        Err(why) => [u32::from(why)],
     }
 }
 
 // Admission: the connection's number, and t.
-pub fn tell_admitted(answer: Admitted) -> [u32; 3]
+pub fn tell_admitted(answer: Result<u32, Refusal>) -> [u32; 3]
     ensures { result ≡ told (admitted answer) }
 {
     match answer {
-        Admitted::Taken(number) => [0, number, 0],
-        Admitted::Refused(why) => [number_of(why), 0, failing_t(why)],
+        Ok(number) => [0, number, 0],
+        Err(why) => [u32::from(why), 0, failing_t(why)],
     }
 }
 
 // An offer: the packet's serial.
-pub fn tell_offered(answer: Offered) -> [u32; 2]
+pub fn tell_offered(answer: Result<u32, Refusal>) -> [u32; 2]
     ensures { result ≡ told (offered answer) }
 {
     match answer {
-        Offered::Accepted(serial) => [0, serial],
-        Offered::Refused(why) => [number_of(why), 0],
+        Ok(serial) => [0, serial],
+        Err(why) => [u32::from(why), 0],
     }
 }
 
 // A step: the serial, the units left, the connection, the arrival and the departure.
-pub fn tell_stepped(answer: Stepped) -> [u32; 6]
+pub fn tell_stepped(answer: Result<Stepped, Refusal>) -> [u32; 6]
     ensures { result ≡ told (stepped answer) }
 {
     match answer {
-        Stepped::Idle => [0, 0, 0, 0, 0, 0],
-        Stepped::Sending { serial, left } => [0, serial, left, 0, 0, 0],
-        Stepped::Departed {
-            serial,
-            connection,
-            arrival,
-            departure,
-        } => [0, serial, 0, connection, arrival, departure],
-        Stepped::Refused(why) => [number_of(why), 0, 0, 0, 0, 0],
+        Ok(Stepped::Idle) => [0, 0, 0, 0, 0, 0],
+        Ok(Stepped::Sending { serial, left }) => [0, serial, left, 0, 0, 0],
+        Ok(
+            Stepped::Departed {
+                serial,
+                connection,
+                arrival,
+                departure,
+            },
+        ) => [0, serial, 0, connection, arrival, departure],
+        Err(why) => [u32::from(why), 0, 0, 0, 0, 0],
     }
 }
 
 // Reading a plan: D, M, and the count and the offset of each table, which are small enough for a word.
-pub fn tell_read(answer: PlanRead) -> [u32; 9]
+pub fn tell_read(answer: Result<Header, Refusal>) -> [u32; 9]
     requires { FitWords (drop 2 (plan_read answer).fields) }
     ensures { result ≡ told (plan_read answer) }
 {
     match answer {
-        PlanRead::Good(h) => {
+        Ok(h) => {
             let classes = h.classes;
             let connections = h.connections;
             let arrivals = h.arrivals;
@@ -112,28 +89,15 @@ pub fn tell_read(answer: PlanRead) -> [u32; 9]
                 arrivals.start as u32,
             ]
         }
-        PlanRead::Refused(why) => [number_of(why), 0, 0, 0, 0, 0, 0, 0, 0],
+        Err(why) => [u32::from(why), 0, 0, 0, 0, 0, 0, 0, 0],
     }
 }
 
-// Writing a plan: the number of bytes written.
-pub fn tell_written(answer: PlanWritten) -> [u32; 2]
+// Writing a plan, and printing the run of one: the number of bytes written.
+pub fn tell_written(answer: Result<usize, Refusal>) -> [u32; 2]
     requires { FitWords (plan_written answer).fields }
-    ensures { result ≡ told (plan_written answer) }
+    ensures plan { result ≡ told (plan_written answer) }
+    ensures text { result ≡ told (printed answer) }
 {
-    match answer {
-        PlanWritten::Written(size) => [0, size as u32],
-        PlanWritten::Refused(why) => [number_of(why), 0],
-    }
-}
-
-// Printing the run of a plan: the number of bytes written.
-pub fn tell_printed(answer: Printed) -> [u32; 2]
-    requires { FitWords (printed answer).fields }
-    ensures { result ≡ told (printed answer) }
-{
-    match answer {
-        Printed::Written(size) => [0, size as u32],
-        Printed::Refused(why) => [number_of(why), 0],
-    }
+    tell_offered(answer.map(|size| size as u32))
 }

@@ -7,10 +7,7 @@ use native.Mathlib.Omega.{arith}
 use lib.Dec.{ltb}
 use lib.ListN.{length, get_or, drop, replicate}
 use Rattle.meaning.specs.declared.Refusal.{Refusal}
-use Rattle.meaning.specs.declared.PlanRead.{PlanRead}
-use Rattle.meaning.specs.declared.PlanWritten.{PlanWritten}
-use Rattle.meaning.specs.declared.Printed.{Printed}
-use Rattle.meaning.specs.Answers.{refusal, header_fields, plan_read, plan_written, printed}
+use Rattle.meaning.specs.Answers.{refusal, header_fields, plan_read, plan_written}
 use Rattle.meaning.specs.Plan.{Lent, lent_wrong, reading_answer, writing_answer}
 use Rattle.plan.proofs.Good.{read_facts}
 use Rattle.plan_writer.proofs.Calls.{write_facts}
@@ -20,6 +17,8 @@ use Rattle.meaning.specs.Lines.{run_text, text_most}
 use Rattle.meaning.proofs.RunFits.{run_fits}
 use Rattle.whole_run.specs.Printing.{printing_answer}
 use Rattle.answers.specs.Fitting.{FitWords}
+use Rattle.std.proofs.Common.{Result, Ok, Err}
+use Rattle.meaning.specs.declared.Header.{Header}
 
 -- An empty list of fields fits its words.
 none : FitWords []
@@ -39,29 +38,29 @@ zeros zero = none
 zeros (suc n) = more (omega arith) (zeros n)
 
 -- The counts and offsets of a plan that was read fit their words.
-pub read_fits : (bytes : List ℕ) (r : PlanRead) → r ≡ reading_answer bytes → FitWords (drop 2 (plan_read r).fields)
+pub read_fits : (bytes : List ℕ) (r : Result Header Refusal) → r ≡ reading_answer bytes → FitWords (drop 2 (plan_read r).fields)
 unfolding plan_read refusal header_fields
-read_fits bytes (PlanRead.Good h) e =
+read_fits bytes (Ok h) e =
     let l = (read_facts bytes h (sym e)).laid in
     more (omega arith) (more (omega arith) (more (omega arith) (more (omega arith) (more (omega arith) (more (omega arith) none)))))
-read_fits bytes (PlanRead.Refused why) e = zeros 6
+read_fits bytes (Err why) e = zeros 6
 
 -- The size of a plan that was written fits a word.
-pub write_fits : (l : Lent) (buf : List ℕ) (r : PlanWritten) → r ≡ writing_answer l (length buf) → FitWords (plan_written r).fields
+pub write_fits : (l : Lent) (buf : List ℕ) (r : Result ℕ Refusal) → r ≡ writing_answer l (length buf) → FitWords (plan_written r).fields
 unfolding plan_written refusal lent_wrong lengths_wrong
-write_fits l buf (PlanWritten.Written size) e =
+write_fits l buf (Ok size) e =
     let t = write_facts l buf size (sym e) in
     let w = lengths_facts (length l.factors) (length l.connections) (length l.arrivals) t.right in
     let s = size_of_lent l.interval l.cycle l.factors l.connections l.arrivals w in
     let d = t.size_is in
     more (omega arith) none
-write_fits l buf (PlanWritten.Refused why) e = zeros 1
+write_fits l buf (Err why) e = zeros 1
 
 -- The size of a text that was printed fits a word.
-pub run_fits_word : (plan : List ℕ) (room : ℕ) (r : Printed) → r ≡ printing_answer plan room → FitWords (printed r).fields
-unfolding printed refusal printing_answer
-run_fits_word plan room r e = subst (λ (a : Printed). FitWords (printed a).fields) (sym e) (go (ltb room text_most))
+pub run_fits_word : (plan : List ℕ) (room : ℕ) (r : Result ℕ Refusal) → r ≡ printing_answer plan room → FitWords (plan_written r).fields
+unfolding plan_written refusal printing_answer
+run_fits_word plan room r e = subst (λ (a : Result ℕ Refusal). FitWords (plan_written a).fields) (sym e) (go (ltb room text_most))
   where
-    go : (b : Bool) → FitWords (printed (cond b (Printed.Refused Refusal.TooShort) (Printed.Written (length (run_text plan))))).fields
-    go true = unfold printed in unfold refusal in zeros 1
-    go false = unfold printed in (let f = run_fits plan in more (omega arith) none)
+    go : (b : Bool) → FitWords (plan_written (cond b (Err Refusal.TooShort) (Ok (length (run_text plan))))).fields
+    go true = unfold plan_written in unfold refusal in zeros 1
+    go false = unfold plan_written in (let f = run_fits plan in more (omega arith) none)

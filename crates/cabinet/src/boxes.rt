@@ -1,7 +1,7 @@
 // The calls of a box, on words that the caller lends.
 ghost use Rattle.cabinet.specs.Promises.{BoxWordsPromise, OpenPromise, SoundPromise, AdmitPromise, OfferPromise, StepPromise};
 
-use answers::{number_of, tell_admitted, tell_offered, tell_opened, tell_stepped};
+use answers::{tell_admitted, tell_offered, tell_opened, tell_stepped};
 use meaning::Refusal;
 use multiplexer::admitting::admit;
 use multiplexer::offering::offer;
@@ -40,7 +40,7 @@ pub extern "C" fn zeppilorn_is_sound(words: &[u32]) -> u32
     if is_sound(words) {
         0
     } else {
-        number_of(Refusal::NotSound)
+        u32::from(Refusal::NotSound)
     }
 }
 

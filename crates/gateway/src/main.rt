@@ -3,8 +3,7 @@
 
 ghost use Rattle.std.specs.Prelude.{◌≤◌, length, IfOk};
 
-use anyhow::{Context, Result, bail};
-use meaning::Printed;
+use anyhow::{Context, Result};
 use std::io;
 use std::io::{Read, Write};
 use whole_run::rooms::{plan_room, text_room};
@@ -38,10 +37,6 @@ fn main(rt: HostRuntime) -> Result<()> {
     let mut plan = plan_room();
     let mut text = text_room();
     let n = read_full(&mut rt.stdin(), &mut plan).context("standard input")?;
-    match run_plan(&plan[..n], &mut text) {
-        Printed::Written(size) => {
-            put_out(&mut rt.stdout(), &text, size).context("standard output")
-        }
-        Printed::Refused(_) => bail!("room for the text"),
-    }
+    let size = run_plan(&plan[..n], &mut text).context("room for the text")?;
+    put_out(&mut rt.stdout(), &text, size).context("standard output")
 }

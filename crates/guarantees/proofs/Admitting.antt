@@ -14,7 +14,6 @@ use Rattle.laws.specs.Tests.{every_at}
 use Rattle.laws.specs.Search.{fails_at}
 use Rattle.laws.specs.Finding.{Least, first_failing_fails, first_failing_holds}
 use Rattle.meaning.specs.declared.Refusal.{Refusal}
-use Rattle.meaning.specs.declared.Admitted.{Admitted}
 use Rattle.meaning.specs.declared.Connection.{Connection}
 use Rattle.meaning.specs.Numbers.{connection_allowed, most_connections, Settings, bound}
 use Rattle.meaning.specs.Envelope.{delayed}
@@ -26,6 +25,7 @@ use Rattle.guarantees.proofs.Saying.{AdmissionRefused, admission_unsound, off_ra
 use Rattle.guarantees.proofs.Saying.{AdmissionSays, admission_says}
 use Rattle.guarantees.proofs.Classes.{bound_least, bound_apart}
 use Rattle.guarantees.proofs.WithoutEnd.{condition_test, all_slots_follow, some_slot_fails}
+use Rattle.std.proofs.Common.{Result, Ok, Err}
 
 -- The connections that stand in a sound box keep the table of numbers.
 pub standing_facts : (box : Box) → sound box ≡ true → (c : Connection) → Memᴰ c (connections box) → ConnectionFacts box.settings c
@@ -43,10 +43,10 @@ newcomer_facts box s c a d m =
 
 module _ (box : Box) (c : Connection) where
   -- A connection that is taken keeps (11) and (12) at every t without end.
-  pub taken_holds : (n : ℕ) → admission_answer box c ≡ Admitted.Taken n → HoldsWithoutEnd box.settings (with_newcomer box c)
+  pub taken_holds : (n : ℕ) → admission_answer box c ≡ Ok n → HoldsWithoutEnd box.settings (with_newcomer box c)
   unfolding finite_search
   taken_holds n e =
-      let says : AdmissionSays box c (Admitted.Taken n) = rw e at (admission_says box c) in
+      let says : AdmissionSays box c (Ok n) = rw e at (admission_says box c) in
       let f = newcomer_facts box says.0 c says.1 in
       all_slots_follow box.settings (settings_facts box.settings (sound_facts box says.0).settings_allowed_lem) (with_newcomer box c)
       f says.3 (first_failing_holds _ _ says.4)
@@ -58,7 +58,7 @@ module _ (box : Box) (c : Connection) where
   search_fails t q = (first_failing_fails _ _ t q).1
 
   -- "the t given with 6 is the least that fails".
-  pub least_that_fails : (t : ℕ) → admission_answer box c ≡ Admitted.Refused (Refusal.ConditionFails t)
+  pub least_that_fails : (t : ℕ) → admission_answer box c ≡ Err (Refusal.ConditionFails t)
       → Least (condition_at box.settings (with_newcomer box c)) 0 t
   least_that_fails t e = go (rw e at (admission_says box c))
     where
@@ -66,7 +66,7 @@ module _ (box : Box) (c : Connection) where
       go (fails_first_at s a f r t q) = search_fails t q
 
   -- With answer 5 some t fails too.
-  pub rate_fails_somewhere : admission_answer box c ≡ Admitted.Refused Refusal.RateExceeded
+  pub rate_fails_somewhere : admission_answer box c ≡ Err Refusal.RateExceeded
       → (t : ℕ) × (condition_at box.settings (with_newcomer box c) t ≡ false)
   rate_fails_somewhere e = go (rw e at (admission_says box c))
     where
@@ -77,10 +77,10 @@ module _ (box : Box) (c : Connection) where
 
   -- With the numbers in range and room in the table, a connection is taken exactly when (11) and (12) hold at every t from 0 without end.
   pub taken_exactly_when : sound box ≡ true → connection_allowed box.settings c ≡ true → length box.standing < most_connections →
-      (admission_answer box c ≡ Admitted.Taken (suc (length box.standing))) ↔ HoldsWithoutEnd box.settings (with_newcomer box c)
+      (admission_answer box c ≡ Ok (suc (length box.standing))) ↔ HoldsWithoutEnd box.settings (with_newcomer box c)
   taken_exactly_when s a r = (taken_holds (suc (length box.standing)), λ h. back h (admission_answer box c) refl (admission_says box c))
     where
-      refused_not : HoldsWithoutEnd box.settings (with_newcomer box c) → (why : Refusal) → admission_answer box c ≡ Admitted.Refused why →
+      refused_not : HoldsWithoutEnd box.settings (with_newcomer box c) → (why : Refusal) → admission_answer box c ≡ Err why →
           AdmissionRefused box c why → ⊥
       refused_not h why e (admission_unsound u) = true≢false (sym s ∙ u)
       refused_not h why e (off_range u n) = true≢false (sym a ∙ n)
@@ -88,10 +88,10 @@ module _ (box : Box) (c : Connection) where
       refused_not h why e (rate_exceeded u n f q) = let p = rate_fails_somewhere e in true≢false (sym (h p.0) ∙ p.1)
       refused_not h why e (fails_first_at u n f q t p) = true≢false (sym (h t) ∙ (least_that_fails t e).fails)
 
-      back : HoldsWithoutEnd box.settings (with_newcomer box c) → (q : Admitted) → admission_answer box c ≡ q → AdmissionSays box c q →
-          q ≡ Admitted.Taken (suc (length box.standing))
-      back h (Admitted.Refused why) e says = absurd (refused_not h why e says)
-      back h (Admitted.Taken n) e says = ap Admitted.Taken says.5
+      back : HoldsWithoutEnd box.settings (with_newcomer box c) → (q : Result ℕ Refusal) → admission_answer box c ≡ q → AdmissionSays box c q →
+          q ≡ Ok (suc (length box.standing))
+      back h (Err why) e says = absurd (refused_not h why e says)
+      back h (Ok n) e says = ap Ok says.5
 
 -- (11) and (12) hold at 0 for every set that keeps the table of numbers.
 holds_at_zero : (set : Settings) → SettingsFacts set → (cs : List Connection)
@@ -118,7 +118,7 @@ holds_at_zero set f cs facts =
     none = unfold sum_at in sum_zero (term set 0) cs nothing_yet
 
 -- The t given with 6 is at least 1, so a printed t of 0 always means that there is none.
-pub fails_after_zero : (box : Box) (c : Connection) (t : ℕ) → admission_answer box c ≡ Admitted.Refused (Refusal.ConditionFails t) → 1 ≤ t
+pub fails_after_zero : (box : Box) (c : Connection) (t : ℕ) → admission_answer box c ≡ Err (Refusal.ConditionFails t) → 1 ≤ t
 fails_after_zero box c zero e = absurd (go (rw e at (admission_says box c)))
   where
     go : AdmissionRefused box c (Refusal.ConditionFails 0) → ⊥

@@ -15,7 +15,7 @@ use Rattle.laws.specs.Sums.{sum_of, sum_append}
 use Rattle.laws.specs.SumLaws.{given, given_true, given_false, sum_one, sum_member}
 use Rattle.laws.specs.Putting.{Put}
 use Rattle.meaning.specs.declared.Packet.{Packet}
-use Rattle.meaning.specs.Box.{Link, free, carries}
+use Rattle.meaning.specs.declared.Link.{Link}
 
 -- Units still to be sent of the packets of q that wait.
 unfoldable pub waiting_work : (Packet → Bool) → List Packet → ℕ
@@ -23,13 +23,13 @@ waiting_work q W = sum_of (λ p. given (q p) p.units) W
 
 -- Units still to be sent of the packet on the link, if it is of q.
 unfoldable pub link_work : (Packet → Bool) → Link → ℕ
-link_work q free = 0
-link_work q (carries p left) = given (q p) left
+link_work q Link.Free = 0
+link_work q (Link.Carries p left) = given (q p) left
 
 -- Units still to be sent of the packet on the link, if it is not of q.
 unfoldable pub link_other : (Packet → Bool) → Link → ℕ
-link_other q free = 0
-link_other q (carries p left) = given (not (q p)) left
+link_other q Link.Free = 0
+link_other q (Link.Carries p left) = given (not (q p)) left
 
 -- Units of the packets of q accepted at slot u or later.
 unfoldable pub arrived_since : (Packet → Bool) → ℕ → List Packet → ℕ
@@ -50,7 +50,7 @@ pub record Busy (q : Packet → Bool) (slot : ℕ) (W : List Packet) (link : Lin
   pub begun : since ≤ slot
   pub account : waiting_work q W + link_work q link + link_other q link + slot ≤ since + rest + arrived_since q since H
   pub waits : (p : Packet) → Memᴰ p W → q p ≡ true → since ≤ p.arrival
-  pub carried : (p : Packet) (left : ℕ) → link ≡ carries p left → q p ≡ true → since ≤ p.arrival
+  pub carried : (p : Packet) (left : ℕ) → link ≡ Link.Carries p left → q p ≡ true → since ≤ p.arrival
   pub way : (rest ≡ 0) ⊎ InTheWay q since rest H
 
 -- The scheduling fact: nothing of q is in the box, or the link is busy with it.
@@ -138,19 +138,19 @@ module _ (q : Packet → Bool) where
       }
 
   -- What is left of another packet on the link is in the way of what comes now.
-  other_on_link : (slot : ℕ) (H : List Packet) (link : Link) → ((p : Packet) (left : ℕ) → link ≡ carries p left → OnLink slot H p left) →
+  other_on_link : (slot : ℕ) (H : List Packet) (link : Link) → ((p : Packet) (left : ℕ) → link ≡ Link.Carries p left → OnLink slot H p left) →
       (link_other q link ≡ 0) ⊎ InTheWay q slot (link_other q link) H
   unfolding link_other
-  other_on_link slot H free on = inl refl
-  other_on_link slot H (carries v left) on = ⊎_elim mine others (bool_cases (q v))
+  other_on_link slot H Link.Free on = inl refl
+  other_on_link slot H (Link.Carries v left) on = ⊎_elim mine others (bool_cases (q v))
     where
       here : OnLink slot H v left
       here = on v left refl
 
-      mine : q v ≡ true → (link_other q (carries v left) ≡ 0) ⊎ InTheWay q slot (link_other q (carries v left)) H
+      mine : q v ≡ true → (link_other q (Link.Carries v left) ≡ 0) ⊎ InTheWay q slot (link_other q (Link.Carries v left)) H
       mine e = inl (given_false left (ap not e))
 
-      others : q v ≡ false → (link_other q (carries v left) ≡ 0) ⊎ InTheWay q slot (link_other q (carries v left)) H
+      others : q v ≡ false → (link_other q (Link.Carries v left) ≡ 0) ⊎ InTheWay q slot (link_other q (Link.Carries v left)) H
       others e =
           inr (record {
             packet = v;
@@ -163,7 +163,7 @@ module _ (q : Packet → Bool) where
   -- An accepted packet of q while nothing of q was in the box: the link is busy with it from this slot on.
   accept_first : (slot : ℕ) (W W' : List Packet) (link : Link) (H : List Packet) (p : Packet) → Put p W W' → q p ≡ true
       → p.arrival ≡ slot →
-      ((x : Packet) → Memᴰ x W → 1 ≤ x.units) → ((v : Packet) (left : ℕ) → link ≡ carries v left → OnLink slot H v left) →
+      ((x : Packet) → Memᴰ x W → 1 ≤ x.units) → ((v : Packet) (left : ℕ) → link ≡ Link.Carries v left → OnLink slot H v left) →
       waiting_work q W + link_work q link ≡ 0 → Busy q slot W' link (H ++ (p ∷ []))
   accept_first slot W W' link H p put e now units on z =
       record {
@@ -182,15 +182,15 @@ module _ (q : Packet → Bool) where
         way = way_more slot (link_other q link) H p (other_on_link slot H link on);
       }
     where
-      busy_link : (l : Link) (v : Packet) (left : ℕ) → l ≡ carries v left → q v ≡ true → 1 ≤ left → link_work q l ≡ 0 → ⊥
+      busy_link : (l : Link) (v : Packet) (left : ℕ) → l ≡ Link.Carries v left → q v ≡ true → 1 ≤ left → link_work q l ≡ 0 → ⊥
       busy_link l v left k h u w =
-          let a : link_work q (carries v left) ≡ left = unfold link_work in given_true left h in
+          let a : link_work q (Link.Carries v left) ≡ left = unfold link_work in given_true left h in
           let b = ap (link_work q) k in
           omega arith
 
   -- The fact is kept by an accepted packet.
   pub accept_keeps : (slot : ℕ) (W W' : List Packet) (link : Link) (H : List Packet) (p : Packet) → Put p W W' → p.arrival ≡ slot →
-      ((x : Packet) → Memᴰ x W → 1 ≤ x.units) → ((v : Packet) (left : ℕ) → link ≡ carries v left → OnLink slot H v left) →
+      ((x : Packet) → Memᴰ x W → 1 ≤ x.units) → ((v : Packet) (left : ℕ) → link ≡ Link.Carries v left → OnLink slot H v left) →
       Backlog q slot W link H → Backlog q slot W' link (H ++ (p ∷ []))
   accept_keeps slot W W' link H p put now units on b =
       ⊎_elim (λ e. inr (mine e b)) (λ e. accept_other slot W W' link H p put e b) (bool_cases (q p))

@@ -11,7 +11,7 @@ use Rattle.meaning.specs.Numbers.{factor, bound}
 use Rattle.meaning.specs.Queues.{rank}
 use Rattle.meaning.specs.Envelope.{envelope}
 use Rattle.meaning.specs.declared.Packet.{Packet}
-use Rattle.meaning.specs.Box.{Box, carries, connection, waiting, rank_in}
+use Rattle.meaning.specs.Box.{Box, connection, waiting, rank_in}
 use Rattle.meaning.proofs.Facts.{ConnectionFacts}
 use Rattle.guarantees.specs.Runs.{InBox}
 use Rattle.guarantees.proofs.Classes.{factor_rises, bound_apart}
@@ -22,6 +22,7 @@ use Rattle.guarantees.proofs.Limits.{up_to, up_to_facts, up_to_closed, up_to_sel
 use Rattle.guarantees.proofs.Limits.{earlier_interval, interval_of}
 use Rattle.guarantees.proofs.Ahead.{KeepsEnvelope, class_of, KeepsLimits}
 use Rattle.guarantees.proofs.Enough.{connection_of, none_in_the_way, far_in_the_way, near_in_the_way}
+use Rattle.meaning.specs.declared.Link.{Link}
 
 module _ (box : Box) (H : List Packet) (k : Known box H) (conforming : KeepsEnvelope envelope box H) (p : Packet) (m : Memᴰ p H) where
   -- The rotation interval.
@@ -187,7 +188,7 @@ in_box_works q box H k p e (inl n) =
     omega arith
 in_box_works q box H k p e (inr l) =
     let o = (k.link_known p l.0 l.1).some_left in
-    let a : link_work q (carries p l.0) ≡ l.0 = unfold link_work in given_true l.0 e in
+    let a : link_work q (Link.Carries p l.0) ≡ l.0 = unfold link_work in given_true l.0 e in
     let b = ap (link_work q) l.1 in
     omega arith
 

@@ -15,7 +15,7 @@ use Rattle.laws.specs.Lists.{get_or_member}
 use Rattle.meaning.specs.Numbers.{factor}
 use Rattle.meaning.specs.declared.Standing.{Standing}
 use Rattle.meaning.specs.declared.Packet.{Packet}
-use Rattle.meaning.specs.Box.{Box, Link, free, carries, connections, connection, no_connection, stands, waiting, sound}
+use Rattle.meaning.specs.Box.{Box, connections, connection, no_connection, stands, waiting, sound}
 use Rattle.meaning.specs.Queues.{turned, lowest_head, without_lowest_head}
 use Rattle.meaning.specs.Calls.{after_offer, joined}
 use Rattle.meaning.specs.Step.{loaded, link_taken, queues_taken, link_sent, turn_due, queues_stepped, moved}
@@ -27,6 +27,7 @@ use Rattle.guarantees.specs.Runs.{InBox}
 use Rattle.guarantees.proofs.Choosing.{join_put, head_put, turned_same, Before, chosen_goes_first}
 use Rattle.guarantees.proofs.Sending.{sent_is}
 use Rattle.guarantees.proofs.Moves.{new_packet, accepting}
+use Rattle.meaning.specs.declared.Link.{Link}
 
 -- What the connection of a standing number asked for is among the connections that stand.
 pub connection_member : (box : Box) (n : ℕ) → 1 ≤ n → n ≤ length box.standing → Memᴰ (connection box n) (connections box)
@@ -55,18 +56,18 @@ accepted_put box s n units e =
 -- How a step finds the packet that it sends: none waits and the link is free, the link is free and the packet that goes first is
 -- taken, or the link carries one. The indices are the link and those that wait then.
 pub data Taking (box : Box) : Link → List Packet → Type 0 where
-  nothing : box.link ≡ free → waiting box ≡ [] → Taking box free []
-  takes : (p : Packet) (W : List Packet) → box.link ≡ free → Put p W (waiting box) → Memᴰ p (waiting box) →
+  nothing : box.link ≡ Link.Free → waiting box ≡ [] → Taking box Link.Free []
+  takes : (p : Packet) (W : List Packet) → box.link ≡ Link.Free → Put p W (waiting box) → Memᴰ p (waiting box) →
       ((x : Packet) → Memᴰ x W → Memᴰ x (waiting box)) → ((x : Packet) → Memᴰ x W → Before box p x) →
-      Taking box (carries p p.units) W
-  carrying : (p : Packet) (left : ℕ) → box.link ≡ carries p left → Taking box (carries p left) (waiting box)
+      Taking box (Link.Carries p p.units) W
+  carrying : (p : Packet) (left : ℕ) → box.link ≡ Link.Carries p left → Taking box (Link.Carries p left) (waiting box)
 
 -- A step of a sound box finds its packet so.
 pub taking : (box : Box) → sound box ≡ true →
     Taking box (link_taken box.link box.queues) (flatten (queues_taken box.link box.queues))
 taking box s = go box.link refl
   where
-    from_free : box.link ≡ free → (o : Option Packet) → lowest_head box.queues ≡ o
+    from_free : box.link ≡ Link.Free → (o : Option Packet) → lowest_head box.queues ≡ o
         → Taking box (loaded o) (flatten (without_lowest_head box.queues))
     from_free l none e =
         unfold loaded in
@@ -77,8 +78,8 @@ taking box s = go box.link refl
         (λ x m. without_member box.queues m) (chosen_goes_first box s p e)
 
     go : (l : Link) → box.link ≡ l → Taking box (link_taken l box.queues) (flatten (queues_taken l box.queues))
-    go free e = unfold link_taken queues_taken in from_free e (lowest_head box.queues) refl
-    go (carries p left) e = unfold link_taken queues_taken waiting in carrying p left e
+    go Link.Free e = unfold link_taken queues_taken in from_free e (lowest_head box.queues) refl
+    go (Link.Carries p left) e = unfold link_taken queues_taken waiting in carrying p left e
 
 -- A turn changes nothing of those that wait.
 pub stepped_same : (box : Box) → Same (flatten (queues_taken box.link box.queues)) (waiting (moved box))
@@ -92,14 +93,14 @@ stepped_same box = go (turn_due box)
 
 module _ (box : Box) where
   -- A packet that a step takes was in the box.
-  pub taken_in_box : {l : Link} {W : List Packet} → Taking box l W → (p : Packet) (left : ℕ) → l ≡ carries p left → InBox box p
+  pub taken_in_box : {l : Link} {W : List Packet} → Taking box l W → (p : Packet) (left : ℕ) → l ≡ Link.Carries p left → InBox box p
   taken_in_box (nothing e w) p left h = absurd (let z : ◌≡◌ {A = ℕ} 0 1 = cc in omega arith)
   taken_in_box (takes x W e put there others first) p left h = let y : p ≡ x = cc in rw y (inl there)
   taken_in_box (carrying x l e) p left h = let y : p ≡ x = cc in inr (l, rw y e)
 
   -- So was a packet that is in the box after the step.
   pub in_box_before : {l : Link} {W : List Packet} → Taking box l W → (x : Packet)
-      → Memᴰ x W ⊎ ((left : ℕ) × (link_sent l ≡ carries x left)) → InBox box x
+      → Memᴰ x W ⊎ ((left : ℕ) × (link_sent l ≡ Link.Carries x left)) → InBox box x
   in_box_before (nothing e w) x (inl m) = absurd (Memᴰ.not-nil m)
   in_box_before (takes p W e put there others first) x (inl m) = inl (others x m)
   in_box_before (carrying p l e) x (inl m) = inl m

@@ -10,8 +10,6 @@ use native.Mathlib.Decide.{ℕ_discrete}
 use Rattle.laws.specs.Tests.{within, within_facts, every}
 use Rattle.laws.specs.Places.{get_d_last}
 use Rattle.meaning.specs.declared.Refusal.{Refusal}
-use Rattle.meaning.specs.declared.Admitted.{Admitted}
-use Rattle.meaning.specs.declared.Offered.{Offered}
 use Rattle.meaning.specs.declared.Stepped.{Stepped}
 use Rattle.meaning.specs.declared.Connection.{Connection}
 use Rattle.meaning.specs.Answers.{refusal_number, refusal, offered}
@@ -33,6 +31,7 @@ use Rattle.guarantees.proofs.Ahead.{connections_length}
 use Rattle.guarantees.proofs.Known.{offer_connections}
 use Rattle.guarantees.proofs.Records.{charged_mine, charged_other}
 use Rattle.guarantees.proofs.Always.{sound_after}
+use Rattle.std.proofs.Common.{Result, Ok, Err}
 
 -- All of a box that the answers to one connection depend on: the contracts that stand, and its own record.
 pub record View : Type 0 where
@@ -44,38 +43,38 @@ unfoldable pub view : ℕ → Box → View
 view n box = record { contracts = connections box; meter = allowance box n }
 
 -- The answer to an admission, by the view.
-unfoldable pub admitted_by : Settings → View → Connection → Admitted
+unfoldable pub admitted_by : Settings → View → Connection → Result ℕ Refusal
 admitted_by set v c =
-    cond (not (connection_allowed set c)) (Admitted.Refused Refusal.ConnectionOffRange)
-    (cond (leb most_connections (length v.contracts)) (Admitted.Refused Refusal.TableFull)
-    (cond (not (rate_holds set (v.contracts ++ (c ∷ [])))) (Admitted.Refused Refusal.RateExceeded)
+    cond (not (connection_allowed set c)) (Err Refusal.ConnectionOffRange)
+    (cond (leb most_connections (length v.contracts)) (Err Refusal.TableFull)
+    (cond (not (rate_holds set (v.contracts ++ (c ∷ [])))) (Err Refusal.RateExceeded)
     (search_answer (suc (length v.contracts)) (finite_search set (v.contracts ++ (c ∷ []))))))
 
 -- The view after that answer.
-unfoldable pub view_admitted : ℕ → View → Connection → Admitted → View
-view_admitted n v c (Admitted.Taken k) =
+unfoldable pub view_admitted : ℕ → View → Connection → Result ℕ Refusal → View
+view_admitted n v c (Ok k) =
     record { contracts = v.contracts ++ (c ∷ []); meter = cond (eqb (n - 1) (length v.contracts)) (full c) v.meter }
-view_admitted n v c (Admitted.Refused why) = v
+view_admitted n v c (Err why) = v
 
 -- The contract of connection n.
 abbrev pub mine : ℕ → View → Connection
 mine n v = get_or v.contracts (n - 1) no_connection
 
 -- The answer to an offer of connection n, by the view, if the store is not full.
-unfoldable pub offered_by : ℕ → View → ℕ → ℕ → Offered
+unfoldable pub offered_by : ℕ → View → ℕ → ℕ → Result ℕ Refusal
 offered_by n v slot units =
-    cond (not (within 1 n (length v.contracts))) (Offered.Refused Refusal.NoConnection)
-    (cond (not (within 1 units (mine n v).longest)) (Offered.Refused Refusal.WrongLength)
-    (cond (not (conforms (mine n v) v.meter slot)) (Offered.Refused Refusal.NotFitting)
-    (Offered.Accepted 0)))
+    cond (not (within 1 n (length v.contracts))) (Err Refusal.NoConnection)
+    (cond (not (within 1 units (mine n v).longest)) (Err Refusal.WrongLength)
+    (cond (not (conforms (mine n v) v.meter slot)) (Err Refusal.NotFitting)
+    (Ok 0)))
 
 -- The view after that answer.
-unfoldable pub view_offered : ℕ → View → ℕ → Offered → View
-view_offered n v slot (Offered.Accepted serial) = record { contracts = v.contracts; meter = charged (mine n v) v.meter slot }
-view_offered n v slot (Offered.Refused why) = v
+unfoldable pub view_offered : ℕ → View → ℕ → Result ℕ Refusal → View
+view_offered n v slot (Ok serial) = record { contracts = v.contracts; meter = charged (mine n v) v.meter slot }
+view_offered n v slot (Err why) = v
 
 -- What connection n is told, by its view and what is asked.
-unfoldable pub replay : Settings → ℕ → View → List Ask → List Offered
+unfoldable pub replay : Settings → ℕ → View → List Ask → List (Result ℕ Refusal)
 replay set n v [] = []
 replay set n v (admission slot c ∷ asks) = replay set n (view_admitted n v c (admitted_by set v c)) asks
 replay set n v (offering slot units ∷ asks) = offered_by n v slot units ∷ replay set n (view_offered n v slot (offered_by n v slot units)) asks
@@ -87,9 +86,9 @@ module _ (n : ℕ) (h : 1 ≤ n) where
   admitted_same box c s = rw (s, connections_length box)
 
   -- The view after an admission is told by its answer.
-  view_admitted_lem : (box : Box) (c : Connection) (a : Admitted) → view n (after_admission box c a) ≡ view_admitted n (view n box) c a
+  view_admitted_lem : (box : Box) (c : Connection) (a : Result ℕ Refusal) → view n (after_admission box c a) ≡ view_admitted n (view n box) c a
   unfolding after_admission view_admitted view
-  view_admitted_lem box c (Admitted.Taken k) =
+  view_admitted_lem box c (Ok k) =
       let row : Standing = record { asked = c; allowance = full c } in
       let contracts : connections (with_standing box (box.standing ++ (row ∷ []))) ≡ connections box ++ (c ∷ []) =
       unfold connections with_standing in map-append (λ (s : Standing). s.asked) box.standing (row ∷ []) in
@@ -101,25 +100,25 @@ module _ (n : ℕ) (h : 1 ≤ n) where
       ap (λ l. cond (eqb (n - 1) l) (full c) (get_or (map (λ (s : Standing). s.allowance) box.standing) (n - 1) (full no_connection)))
       (length-map box.standing (λ s. s.allowance) ∙ sym (connections_length box))) in
       λ i. record { contracts = contracts i; meter = meter i }
-  view_admitted_lem box c (Admitted.Refused why) = refl
+  view_admitted_lem box c (Err why) = refl
 
   -- A sound box that does not answer 10 answers an offer by the view, serials aside.
-  offered_same : (box : Box) (units : ℕ) (o : Offered) → sound box ≡ true → is_ten (to_offer o) ≡ false → OfferSays box n units o →
+  offered_same : (box : Box) (units : ℕ) (o : Result ℕ Refusal) → sound box ≡ true → is_ten (to_offer o) ≡ false → OfferSays box n units o →
       serial_aside o ≡ offered_by n (view n box) box.counter units
   unfolding serial_aside offered_by view stands connection is_ten offered refusal refusal_number
-  offered_same box units (Offered.Refused why) s t (offer_unsound u) = absurd (true≢false (sym s ∙ u))
-  offered_same box units (Offered.Refused why) s t (no_connection_lem u a) = rw (connections_length box, a)
-  offered_same box units (Offered.Refused why) s t (wrong_length u a l) = rw (connections_length box, a, l)
-  offered_same box units (Offered.Refused why) s t (not_fitting u a l f) = rw (connections_length box, a, l, f)
-  offered_same box units (Offered.Refused why) s t (store_full u a l f w) = absurd (true≢false t)
-  offered_same box units (Offered.Accepted serial) s t says = rw (connections_length box, says.1, says.2, says.3)
+  offered_same box units (Err why) s t (offer_unsound u) = absurd (true≢false (sym s ∙ u))
+  offered_same box units (Err why) s t (no_connection_lem u a) = rw (connections_length box, a)
+  offered_same box units (Err why) s t (wrong_length u a l) = rw (connections_length box, a, l)
+  offered_same box units (Err why) s t (not_fitting u a l f) = rw (connections_length box, a, l, f)
+  offered_same box units (Err why) s t (store_full u a l f w) = absurd (true≢false t)
+  offered_same box units (Ok serial) s t says = rw (connections_length box, says.1, says.2, says.3)
 
   -- Its own offers change the view by what they are told.
-  view_offered_lem : (box : Box) (units : ℕ) (o : Offered) → OfferSays box n units o →
+  view_offered_lem : (box : Box) (units : ℕ) (o : Result ℕ Refusal) → OfferSays box n units o →
       view n (after_offer box n units o) ≡ view_offered n (view n box) box.counter (serial_aside o)
   unfolding view_offered view serial_aside connection
-  view_offered_lem box units (Offered.Refused why) says = unfold after_offer in refl
-  view_offered_lem box units (Offered.Accepted serial) says =
+  view_offered_lem box units (Err why) says = unfold after_offer in refl
+  view_offered_lem box units (Ok serial) says =
       let r = within_facts 1 n (length box.standing) (unfold stands in says.1) in
       let contracts = offer_connections box n units in
       let meter : allowance (accepting box n units) n ≡
@@ -128,23 +127,23 @@ module _ (n : ℕ) (h : 1 ≤ n) where
       rw says.5 (λ i. record { contracts = contracts i; meter = meter i })
 
   -- The offers of others do not change it.
-  view_other : (box : Box) (m units : ℕ) → (m ≡ n → ⊥) → (o : Offered) → OfferSays box m units o
+  view_other : (box : Box) (m units : ℕ) → (m ≡ n → ⊥) → (o : Result ℕ Refusal) → OfferSays box m units o
       → view n (after_offer box m units o) ≡ view n box
   unfolding view
-  view_other box m units ne (Offered.Refused why) says = unfold after_offer in refl
-  view_other box m units ne (Offered.Accepted serial) says =
+  view_other box m units ne (Err why) says = unfold after_offer in refl
+  view_other box m units ne (Ok serial) says =
       let r = within_facts 1 m (length box.standing) (unfold stands in says.1) in
       let contracts = offer_connections box m units in
       let meter = charged_other box m units n r.0 h ne in
       rw says.5 (λ i. record { contracts = contracts i; meter = meter i })
 
   -- A step does not change the view.
-  view_step : (box : Box) (a : Stepped) → view n (after_step box a) ≡ view n box
+  view_step : (box : Box) (a : Result Stepped Refusal) → view n (after_step box a) ≡ view n box
   unfolding view after_step moved connections allowance
-  view_step box Stepped.Idle = refl
-  view_step box (Stepped.Sending serial left) = refl
-  view_step box (Stepped.Departed serial connection arrival departure) = refl
-  view_step box (Stepped.Refused why) = refl
+  view_step box (Ok Stepped.Idle) = refl
+  view_step box (Ok (Stepped.Sending serial left)) = refl
+  view_step box (Ok (Stepped.Departed serial connection arrival departure)) = refl
+  view_step box (Err why) = refl
 
   -- One call, and what is told after it.
   module _ (box : Box) (s : sound box ≡ true) (es : List Event) where

@@ -9,14 +9,13 @@ use lib.ListN.{length}
 use native.Mathlib.Omega.{arith}
 use Rattle.laws.specs.Tests.{within_facts}
 use Rattle.laws.specs.Sums.{sum_of, largest_of}
-use Rattle.meaning.specs.declared.Admitted.{Admitted}
 use Rattle.meaning.specs.declared.Connection.{Connection}
 use Rattle.meaning.specs.Numbers.{Settings, settings_allowed}
 use Rattle.meaning.specs.Envelope.{full}
 use Rattle.meaning.specs.Admission.{HoldsWithoutEnd, sum_at, in_the_way}
 use Rattle.meaning.specs.declared.Standing.{Standing}
 use Rattle.meaning.specs.declared.Packet.{Packet}
-use Rattle.meaning.specs.Box.{Box, Link, free, carries, connections, connection, stands, waiting}
+use Rattle.meaning.specs.Box.{Box, connections, connection, stands, waiting}
 use Rattle.meaning.specs.Queues.{empty_queues}
 use Rattle.meaning.specs.Calls.{new_box, with_newcomer, with_standing, admission_answer, after_offer}
 use Rattle.meaning.specs.Step.{link_sent, moved}
@@ -31,6 +30,8 @@ use Rattle.guarantees.proofs.Sending.{sent_cases}
 use Rattle.guarantees.proofs.Moves.{Move, refused, joins, accepts, idles, sends, departs, new_packet, Grows, move_grows}
 use Rattle.guarantees.proofs.Moves.{charged_same, facts_grow, accepting, AcceptSays}
 use Rattle.guarantees.proofs.Effects.{accepted_put, Taking, nothing, takes, carrying, taking, stepped_same}
+use Rattle.std.proofs.Common.{Ok}
+use Rattle.meaning.specs.declared.Link.{Link}
 
 -- What is known of the box and of every packet accepted so far.
 pub record Known (box : Box) (H : List Packet) : Type 0 where
@@ -40,7 +41,7 @@ pub record Known (box : Box) (H : List Packet) : Type 0 where
   pub packets_ok : (p : Packet) → Memᴰ p H → PacketFacts box p
   pub arrivals_rise : (x y : Packet) → Memᴰ x H → Memᴰ y H → x.serial ≤ y.serial → x.arrival ≤ y.arrival
   pub waiting_known : (p : Packet) → Memᴰ p (waiting box) → Memᴰ p H
-  pub link_known : (p : Packet) (left : ℕ) → box.link ≡ carries p left → OnLink box.counter H p left
+  pub link_known : (p : Packet) (left : ℕ) → box.link ≡ Link.Carries p left → OnLink box.counter H p left
 
 -- With no connection the conditions hold.
 nothing_holds : (set : Settings) → HoldsWithoutEnd set []
@@ -67,12 +68,12 @@ on_link_more x o =
     record { accepted = Memᴰ.append_left (x ∷ []) o.accepted; earlier = o.earlier; some_left = o.some_left; some_sent = o.some_sent }
 
 -- All this is still known once a connection joins.
-known_joins : (box : Box) (H : List Packet) (c : Connection) (n : ℕ) → admission_answer box c ≡ Admitted.Taken n →
+known_joins : (box : Box) (H : List Packet) (c : Connection) (n : ℕ) → admission_answer box c ≡ Ok n →
     (rows : List Standing) → map (λ s. s.asked) rows ≡ with_newcomer box c → Grows box (with_standing box rows) →
     Known box H → Known (with_standing box rows) H
 unfolding with_standing connections waiting
 known_joins box H c n e rows same g k =
-    let says : AdmissionSays box c (Admitted.Taken n) = rw e at (admission_says box c) in
+    let says : AdmissionSays box c (Ok n) = rw e at (admission_says box c) in
     record {
       settings_ok = k.settings_ok;
       connections_ok = λ d m. newcomer_facts box says.0 c says.1 d (rw same at m);
@@ -167,11 +168,11 @@ known_steps box H go g k =
     still_waits (carrying x left e) p m = m
 
     sent : (p : Packet) (left : ℕ) → Memᴰ p H → left ≤ p.units →
-        (x : Packet) (l : ℕ) → link_sent (carries p left) ≡ carries x l → OnLink (suc box.counter) H x l
+        (x : Packet) (l : ℕ) → link_sent (Link.Carries p left) ≡ Link.Carries x l → OnLink (suc box.counter) H x l
     sent p left m u x l e =
-        ⊎_elim (λ (c : (left ≤ 1) × (link_sent (carries p left) ≡ free)). absurd
+        ⊎_elim (λ (c : (left ≤ 1) × (link_sent (Link.Carries p left) ≡ Link.Free)). absurd
         (let h = c.1 in let z : ◌≡◌ {A = ℕ} 0 1 = cc in omega arith))
-        (λ (c : (2 ≤ left) × (link_sent (carries p left) ≡ carries p (left - 1))).
+        (λ (c : (2 ≤ left) × (link_sent (Link.Carries p left) ≡ Link.Carries p (left - 1))).
         let h = c.1 in
         let two = c.0 in
         let y : x ≡ p = cc in
@@ -180,7 +181,7 @@ known_steps box H go g k =
         rw (y, n) (record { accepted = m; earlier = omega arith; some_left = omega arith; some_sent = omega arith }))
         (sent_cases p left)
 
-    link : {l : Link} {W : List Packet} → Taking box l W → (x : Packet) (left : ℕ) → link_sent l ≡ carries x left
+    link : {l : Link} {W : List Packet} → Taking box l W → (x : Packet) (left : ℕ) → link_sent l ≡ Link.Carries x left
         → OnLink (suc box.counter) H x left
     link (nothing e w) x left h = unfold link_sent in absurd (let z : ◌≡◌ {A = ℕ} 0 1 = cc in omega arith)
     link (takes p W e put there others first) x left h = sent p p.units (k.waiting_known p there) (omega arith) x left h

@@ -7,20 +7,21 @@ use lib.Dec.{leb}
 use lib.ListN.{length, length-append, length-set, length-map, get_or-append}
 use lib.Seq.{map-set_same}
 use native.Mathlib.Omega.{arith}
-use Rattle.meaning.specs.declared.Admitted.{Admitted}
-use Rattle.meaning.specs.declared.Offered.{Offered}
 use Rattle.meaning.specs.declared.Stepped.{Stepped}
 use Rattle.meaning.specs.declared.Connection.{Connection}
 use Rattle.meaning.specs.Envelope.{full}
 use Rattle.meaning.specs.declared.Standing.{Standing}
 use Rattle.meaning.specs.declared.Packet.{Packet}
-use Rattle.meaning.specs.Box.{Box, free, carries, connections, connection, no_connection, rank_in}
+use Rattle.meaning.specs.Box.{Box, connections, connection, no_connection, rank_in}
 use Rattle.meaning.specs.Calls.{admission_answer, with_standing, after_admission, offer_answer, after_offer, charged_at}
 use Rattle.meaning.specs.Step.{link_taken, step_answer, moved, after_step}
 use Rattle.meaning.proofs.Facts.{PacketFacts}
 use Rattle.guarantees.specs.Runs.{Call, admit, offer, step, reply, after, box_after, trace, offer_taken, packet_taken, accepted_in}
 use Rattle.guarantees.specs.Runs.{Departure, step_left, packet_left, departed_in}
 use Rattle.guarantees.proofs.Saying.{OfferSays, offer_says, StepGoes, StepSays, step_says}
+use Rattle.std.proofs.Common.{Result, Ok, Err}
+use Rattle.meaning.specs.declared.Refusal.{Refusal}
+use Rattle.meaning.specs.declared.Link.{Link}
 
 -- The packet that an accepted offer brings in.
 abbrev pub new_packet : Box → ℕ → ℕ → Packet
@@ -32,11 +33,11 @@ leaving box p = record { serial = p.serial; connection = p.connection; arrival =
 
 -- The box once a packet of this connection and length is accepted.
 abbrev pub accepting : Box → ℕ → ℕ → Box
-accepting box n units = after_offer box n units (Offered.Accepted (suc box.accepted))
+accepting box n units = after_offer box n units (Ok (suc box.accepted))
 
 -- What the answer of that offer says.
 abbrev pub AcceptSays : Box → ℕ → ℕ → Type 0
-AcceptSays box n units = OfferSays box n units (Offered.Accepted (suc box.accepted))
+AcceptSays box n units = OfferSays box n units (Ok (suc box.accepted))
 
 -- The box once this connection is taken.
 abbrev pub joining : Box → Connection → Box
@@ -45,39 +46,39 @@ joining box c = with_standing box (box.standing ++ (record { asked = c; allowanc
 -- What befalls a box, with H accepted and G departed before.
 pub data Move (box : Box) (H : List Packet) (G : List Departure) : Box → List Packet → List Departure → Type 0 where
   refused : Move box H G box H G
-  joins : (c : Connection) (n : ℕ) → admission_answer box c ≡ Admitted.Taken n →
+  joins : (c : Connection) (n : ℕ) → admission_answer box c ≡ Ok n →
       Move box H G (joining box c) H G
   accepts : (n units : ℕ) → AcceptSays box n units →
       Move box H G (accepting box n units) (H ++ (new_packet box n units ∷ [])) G
-  idles : StepGoes box → link_taken box.link box.queues ≡ free → Move box H G (moved box) H G
-  sends : StepGoes box → (p : Packet) (left : ℕ) → link_taken box.link box.queues ≡ carries p left → leb left 1 ≡ false →
+  idles : StepGoes box → link_taken box.link box.queues ≡ Link.Free → Move box H G (moved box) H G
+  sends : StepGoes box → (p : Packet) (left : ℕ) → link_taken box.link box.queues ≡ Link.Carries p left → leb left 1 ≡ false →
       Move box H G (moved box) H G
-  departs : StepGoes box → (p : Packet) (left : ℕ) → link_taken box.link box.queues ≡ carries p left → leb left 1 ≡ true →
+  departs : StepGoes box → (p : Packet) (left : ℕ) → link_taken box.link box.queues ≡ Link.Carries p left → leb left 1 ≡ true →
       Move box H G (moved box) H (G ++ (leaving box p ∷ []))
 
 module _ (box : Box) (H : List Packet) (G : List Departure) where
   -- An admission joins or is refused.
-  admission_moves : (c : Connection) (a : Admitted) → admission_answer box c ≡ a → Move box H G (after_admission box c a) (H ++ []) (G ++ [])
+  admission_moves : (c : Connection) (a : Result ℕ Refusal) → admission_answer box c ≡ a → Move box H G (after_admission box c a) (H ++ []) (G ++ [])
   unfolding after_admission
-  admission_moves c (Admitted.Taken n) e = rw (append-nil H, append-nil G) (joins c n e)
-  admission_moves c (Admitted.Refused why) e = rw (append-nil H, append-nil G) refused
+  admission_moves c (Ok n) e = rw (append-nil H, append-nil G) (joins c n e)
+  admission_moves c (Err why) e = rw (append-nil H, append-nil G) refused
 
   -- An offer is accepted or refused.
-  offer_moves : (n units : ℕ) (a : Offered) → OfferSays box n units a →
+  offer_moves : (n units : ℕ) (a : Result ℕ Refusal) → OfferSays box n units a →
       Move box H G (after_offer box n units a) (H ++ offer_taken box.counter n units a) (G ++ [])
   unfolding offer_taken
-  offer_moves n units (Offered.Accepted serial) s =
+  offer_moves n units (Ok serial) s =
       rw (append-nil G, s.5) (accepts n units (s.0, s.1, s.2, s.3, s.4, refl))
-  offer_moves n units (Offered.Refused why) s = unfold after_offer in rw (append-nil H, append-nil G) refused
+  offer_moves n units (Err why) s = unfold after_offer in rw (append-nil H, append-nil G) refused
 
   -- A step idles, sends, reports a departure or is refused.
-  step_moves : (a : Stepped) → StepSays box a → Move box H G (after_step box a) (H ++ []) (G ++ step_left a)
+  step_moves : (a : Result Stepped Refusal) → StepSays box a → Move box H G (after_step box a) (H ++ []) (G ++ step_left a)
   unfolding after_step step_left
-  step_moves Stepped.Idle s = rw (append-nil H, append-nil G) (idles s.0 s.1)
-  step_moves (Stepped.Sending serial left) s = rw (append-nil H, append-nil G) (sends s.0 s.1 s.2 s.3 s.4)
-  step_moves (Stepped.Departed serial connection arrival departure) s =
+  step_moves (Ok Stepped.Idle) s = rw (append-nil H, append-nil G) (idles s.0 s.1)
+  step_moves (Ok (Stepped.Sending serial left)) s = rw (append-nil H, append-nil G) (sends s.0 s.1 s.2 s.3 s.4)
+  step_moves (Ok (Stepped.Departed serial connection arrival departure)) s =
       rw (append-nil H, s.5, s.6, s.7, s.8) (departs s.0 s.1 s.2 s.3 s.4)
-  step_moves (Stepped.Refused why) s = rw (append-nil H, append-nil G) refused
+  step_moves (Err why) s = rw (append-nil H, append-nil G) refused
 
   -- A call is a move.
   pub call_moves : (c : Call) → Move box H G (after box c) (H ++ packet_taken box.counter c (reply box c)) (G ++ packet_left (reply box c))

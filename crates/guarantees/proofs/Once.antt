@@ -14,7 +14,7 @@ use Rattle.laws.specs.SumLaws.{given, given_true, given_false, sum_one}
 use Rattle.meaning.specs.Numbers.{Settings}
 use Rattle.meaning.specs.declared.Connection.{Connection}
 use Rattle.meaning.specs.declared.Packet.{Packet}
-use Rattle.meaning.specs.Box.{Box, Link, carries, waiting, on_link}
+use Rattle.meaning.specs.Box.{Box, waiting, on_link}
 use Rattle.meaning.specs.Queues.{empty_queues}
 use Rattle.meaning.specs.Calls.{new_box, with_standing, after_offer}
 use Rattle.meaning.specs.Step.{link_taken, queues_taken, link_sent, moved}
@@ -22,6 +22,7 @@ use Rattle.meaning.proofs.QueueLaws.{empty_flatten}
 use Rattle.guarantees.specs.Runs.{Departure, times_among, count_from}
 use Rattle.guarantees.proofs.Moves.{Move, refused, joins, accepts, idles, sends, departs, new_packet, leaving, accepting, joining}
 use Rattle.guarantees.proofs.Effects.{accepted_put, Taking, nothing, takes, carrying, taking, stepped_same}
+use Rattle.meaning.specs.declared.Link.{Link}
 
 -- What f gives for these packets, by serial, connection and arrival.
 unfoldable pub of_packets : (ℕ → ℕ → ℕ → ℕ) → List Packet → ℕ
@@ -71,12 +72,12 @@ module _ (box : Box) (f : ℕ → ℕ → ℕ → ℕ) where
 
   -- A unit that is not the last leaves the packet on the link.
   sent_once : (p : Packet) (left : ℕ) → leb left 1 ≡ false
-      → of_packets f (on_link (link_sent (carries p left))) ≡ of_packets f (on_link (carries p left))
+      → of_packets f (on_link (link_sent (Link.Carries p left))) ≡ of_packets f (on_link (Link.Carries p left))
   unfolding link_sent on_link
   sent_once p left e = rw e
 
   -- With the last unit the link is free.
-  left_once : (p : Packet) (left : ℕ) → leb left 1 ≡ true → of_packets f (on_link (link_sent (carries p left))) ≡ 0
+  left_once : (p : Packet) (left : ℕ) → leb left 1 ≡ true → of_packets f (on_link (link_sent (Link.Carries p left))) ≡ 0
   unfolding link_sent on_link of_packets sum_of
   left_once p left e = rw e
 
@@ -120,7 +121,7 @@ once_moves box next H H' G G' o (sends go p left e l) = λ f.
     let s : of_packets f (waiting (moved box)) ≡ of_packets f (flatten (queues_taken box.link box.queues)) =
     unfold of_packets in (stepped_same box).sums (λ p. f p.serial p.connection p.arrival) in
     let b = sent_once box f p left l in
-    let m : (moved box).link ≡ link_sent (carries p left) = unfold moved in rw e in
+    let m : (moved box).link ≡ link_sent (Link.Carries p left) = unfold moved in rw e in
     let n = ap (λ (l : Link). of_packets f (on_link l)) e in
     let q = o f in
     let a = ap (λ (l : Link). of_packets f (on_link l)) m in
@@ -130,9 +131,9 @@ once_moves box next H H' G G' o (departs go p left e l) = λ f.
     let s : of_packets f (waiting (moved box)) ≡ of_packets f (flatten (queues_taken box.link box.queues)) =
     unfold of_packets in (stepped_same box).sums (λ p. f p.serial p.connection p.arrival) in
     let b = left_once box f p left l in
-    let m : (moved box).link ≡ link_sent (carries p left) = unfold moved in rw e in
+    let m : (moved box).link ≡ link_sent (Link.Carries p left) = unfold moved in rw e in
     let n = ap (λ (l : Link). of_packets f (on_link l)) e in
-    let u : of_packets f (on_link (carries p left)) ≡ f p.serial p.connection p.arrival =
+    let u : of_packets f (on_link (Link.Carries p left)) ≡ f p.serial p.connection p.arrival =
     unfold of_packets on_link in sum_one (λ (p : Packet). f p.serial p.connection p.arrival) p in
     let v : of_departures f (G ++ (leaving box p ∷ [])) ≡ of_departures f G + f p.serial p.connection p.arrival =
     unfold of_departures in (sum_append (λ (g : Departure). f g.serial g.connection g.arrival) G (leaving box p ∷ []) ∙

@@ -13,7 +13,7 @@ use Rattle.laws.specs.Tests.{every, every_at, every_all, or_left, or_right}
 use Rattle.meaning.specs.Numbers.{Settings, factor}
 use Rattle.meaning.specs.Queues.{rank, empty_queues}
 use Rattle.meaning.specs.declared.Packet.{Packet}
-use Rattle.meaning.specs.Box.{Box, Link, free, carries, connection, waiting, rank_in}
+use Rattle.meaning.specs.Box.{Box, connection, waiting, rank_in}
 use Rattle.meaning.specs.Calls.{new_box, with_standing, after_offer}
 use Rattle.meaning.specs.Step.{link_taken, queues_taken, link_sent, moved}
 use Rattle.guarantees.specs.Runs.{Departure, in_order, InBox}
@@ -26,13 +26,14 @@ use Rattle.guarantees.proofs.Effects.{accepted_put, Taking, nothing, takes, carr
 use Rattle.guarantees.proofs.Effects.{in_box_before}
 use Rattle.guarantees.proofs.Known.{Known}
 use Rattle.guarantees.proofs.OnTime.{in_box_known}
+use Rattle.meaning.specs.declared.Link.{Link}
 
 -- What is kept of the order: departures so far, then the packet on the link, then those that wait.
 pub record Ordered (box : Box) (G : List Departure) : Type 0 where
   pub so_far : in_order G ≡ true
   pub counted : (g : Departure) → Memᴰ g G → g.serial ≤ box.accepted
   pub gone_first : (g : Departure) → Memᴰ g G → (x : Packet) → InBox box x → g.connection ≡ x.connection → g.serial < x.serial
-  pub link_first : (p : Packet) (left : ℕ) → box.link ≡ carries p left →
+  pub link_first : (p : Packet) (left : ℕ) → box.link ≡ Link.Carries p left →
       (x : Packet) → Memᴰ x (waiting box) → p.connection ≡ x.connection → p.serial < x.serial
 
 -- Of two packets of one connection, the one that goes before was accepted before.
@@ -93,7 +94,7 @@ ordered_accepts box H G n units s k o =
           ((accepted_put box s.0 n units s.1).parts x m);
     }
   where
-    same : (p : Packet) (left : ℕ) → (accepting box n units).link ≡ carries p left → box.link ≡ carries p left
+    same : (p : Packet) (left : ℕ) → (accepting box n units).link ≡ Link.Carries p left → box.link ≡ Link.Carries p left
     same p left l = unfold after_offer in l
 
     gone : (g : Departure) → Memᴰ g G → (x : Packet) → InBox (accepting box n units) x → g.connection ≡ x.connection
@@ -106,7 +107,7 @@ ordered_accepts box H G n units s k o =
 -- The packet that a step sends goes before all of its connection that wait then.
 sends_first : (box : Box) (H : List Packet) (G : List Departure) → Known box H → Ordered box G → {l : Link} {W : List Packet}
     → Taking box l W →
-    (p : Packet) (left : ℕ) → l ≡ carries p left → (x : Packet) → Memᴰ x W → p.connection ≡ x.connection → p.serial < x.serial
+    (p : Packet) (left : ℕ) → l ≡ Link.Carries p left → (x : Packet) → Memᴰ x W → p.connection ≡ x.connection → p.serial < x.serial
 sends_first box H G k o (nothing e w) p left h x m c = absurd (Memᴰ.not-nil m)
 sends_first box H G k o (takes y W e put there others first) p left h x m c =
     let z : p ≡ y = cc in
@@ -128,16 +129,16 @@ ordered_steps box H G go k o =
     before {x} (inl m) = in_box_before box (taking box go.was_sound) x (inl ((stepped_same box).parts x m))
     before {x} (inr l) = in_box_before box (taking box go.was_sound) x (inr (unfold moved in l))
 
-    link : (l : Link) → link_taken box.link box.queues ≡ l → (p : Packet) (left : ℕ) → link_sent l ≡ carries p left → (x : Packet) →
+    link : (l : Link) → link_taken box.link box.queues ≡ l → (p : Packet) (left : ℕ) → link_sent l ≡ Link.Carries p left → (x : Packet) →
         Memᴰ x (flatten (queues_taken box.link box.queues)) → p.connection ≡ x.connection → p.serial < x.serial
-    link free e p left h x m c = absurd (let z : ◌≡◌ {A = ℕ} 0 1 = unfold link_sent in cc in omega arith)
-    link (carries y n) e p left h x m c =
+    link Link.Free e p left h x m c = absurd (let z : ◌≡◌ {A = ℕ} 0 1 = unfold link_sent in cc in omega arith)
+    link (Link.Carries y n) e p left h x m c =
         let z = sent_is y n p left h in
         sends_first box H G k o (taking box go.was_sound) p n (rw z e) x m c
 
 -- A step that reports a departure keeps the order.
 ordered_departs : (box : Box) (H : List Packet) (G : List Departure) → StepGoes box → Known box H → Ordered box G →
-    (p : Packet) (left : ℕ) → link_taken box.link box.queues ≡ carries p left → leb left 1 ≡ true
+    (p : Packet) (left : ℕ) → link_taken box.link box.queues ≡ Link.Carries p left → leb left 1 ≡ true
     → Ordered (moved box) (G ++ (leaving box p ∷ []))
 ordered_departs box H G go k o p left e l =
     let s = ordered_steps box H G go k o in
@@ -156,7 +157,7 @@ ordered_departs box H G go k o p left e l =
       link_first = s.link_first;
     }
   where
-    link_free : (moved box).link ≡ free
+    link_free : (moved box).link ≡ Link.Free
     link_free = unfold moved link_sent in rw (e, l)
 
     only : (x : Packet) → InBox (moved box) x → p.connection ≡ x.connection → p.serial < x.serial

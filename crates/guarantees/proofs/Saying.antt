@@ -7,18 +7,18 @@ use lib.ListN.{length}
 use Rattle.laws.specs.Tests.{within}
 use Rattle.laws.specs.Search.{Search, fails_at, holds}
 use Rattle.meaning.specs.declared.Refusal.{Refusal}
-use Rattle.meaning.specs.declared.Admitted.{Admitted}
-use Rattle.meaning.specs.declared.Offered.{Offered}
 use Rattle.meaning.specs.declared.Stepped.{Stepped}
 use Rattle.meaning.specs.declared.Connection.{Connection}
 use Rattle.meaning.specs.Numbers.{connection_allowed, most_connections, most_waiting, last_slot}
 use Rattle.meaning.specs.Envelope.{conforms}
 use Rattle.meaning.specs.Admission.{rate_holds, finite_search}
 use Rattle.meaning.specs.declared.Packet.{Packet}
-use Rattle.meaning.specs.Box.{Box, Link, free, carries, connection, stands, waiting, sound}
+use Rattle.meaning.specs.Box.{Box, connection, stands, waiting, sound}
 use Rattle.meaning.specs.Calls.{with_newcomer, search_answer, admission_answer, allowance, offer_answer}
 use Rattle.meaning.specs.Step.{link_taken, queues_taken, sent_answer, turn_due, step_answer}
 use Rattle.meaning.specs.Queues.{tag_zero_waits}
+use Rattle.std.proofs.Common.{Result, Ok, Err}
+use Rattle.meaning.specs.declared.Link.{Link}
 
 -- What a refusal of an admission says.
 pub data AdmissionRefused (box : Box) (c : Connection) : Refusal → Type 0 where
@@ -33,9 +33,9 @@ pub data AdmissionRefused (box : Box) (c : Connection) : Refusal → Type 0 wher
       AdmissionRefused box c (Refusal.ConditionFails t)
 
 -- What an answer to an admission says.
-abbrev pub AdmissionSays : Box → Connection → Admitted → Type 0
-AdmissionSays box c (Admitted.Refused why) = AdmissionRefused box c why
-AdmissionSays box c (Admitted.Taken n) =
+abbrev pub AdmissionSays : Box → Connection → Result ℕ Refusal → Type 0
+AdmissionSays box c (Err why) = AdmissionRefused box c why
+AdmissionSays box c (Ok n) =
     (sound box ≡ true) × (connection_allowed box.settings c ≡ true) × (leb most_connections (length box.standing) ≡ false) ×
     (rate_holds box.settings (with_newcomer box c) ≡ true) × (finite_search box.settings (with_newcomer box c) ≡ holds) ×
     (n ≡ suc (length box.standing))
@@ -51,10 +51,10 @@ admission_says box c =
         (f : Bool) → leb most_connections (length box.standing) ≡ f → (r : Bool) → rate_holds box.settings (with_newcomer box c) ≡ r →
         (q : Search) → finite_search box.settings (with_newcomer box c) ≡ q →
         AdmissionSays box c
-        (cond (not s) (Admitted.Refused Refusal.NotSound)
-        (cond (not a) (Admitted.Refused Refusal.ConnectionOffRange)
-        (cond f (Admitted.Refused Refusal.TableFull)
-        (cond (not r) (Admitted.Refused Refusal.RateExceeded) (search_answer (suc (length box.standing)) q)))))
+        (cond (not s) (Err Refusal.NotSound)
+        (cond (not a) (Err Refusal.ConnectionOffRange)
+        (cond f (Err Refusal.TableFull)
+        (cond (not r) (Err Refusal.RateExceeded) (search_answer (suc (length box.standing)) q)))))
     go false s a a' f f' r r' q q' = admission_unsound s
     go true s false a f f' r r' q q' = off_range s a
     go true s true a true f r r' q q' = table_full s a f
@@ -75,9 +75,9 @@ pub data OfferRefused (box : Box) (n units : ℕ) : Refusal → Type 0 where
       OfferRefused box n units Refusal.StoreFull
 
 -- What an answer to an offer says.
-abbrev pub OfferSays : Box → ℕ → ℕ → Offered → Type 0
-OfferSays box n units (Offered.Refused why) = OfferRefused box n units why
-OfferSays box n units (Offered.Accepted serial) =
+abbrev pub OfferSays : Box → ℕ → ℕ → Result ℕ Refusal → Type 0
+OfferSays box n units (Err why) = OfferRefused box n units why
+OfferSays box n units (Ok serial) =
     (sound box ≡ true) × (stands box n ≡ true) × (within 1 units (connection box n).longest ≡ true) ×
     (conforms (connection box n) (allowance box n) box.counter ≡ true) × (leb most_waiting (length (waiting box)) ≡ false) ×
     (serial ≡ suc box.accepted)
@@ -93,11 +93,11 @@ offer_says box n units =
         (r : Bool) → conforms (connection box n) (allowance box n) box.counter ≡ r →
         (q : Bool) → leb most_waiting (length (waiting box)) ≡ q →
         OfferSays box n units
-        (cond (not s) (Offered.Refused Refusal.NotSound)
-        (cond (not a) (Offered.Refused Refusal.NoConnection)
-        (cond (not f) (Offered.Refused Refusal.WrongLength)
-        (cond (not r) (Offered.Refused Refusal.NotFitting)
-        (cond q (Offered.Refused Refusal.StoreFull) (Offered.Accepted (suc box.accepted)))))))
+        (cond (not s) (Err Refusal.NotSound)
+        (cond (not a) (Err Refusal.NoConnection)
+        (cond (not f) (Err Refusal.WrongLength)
+        (cond (not r) (Err Refusal.NotFitting)
+        (cond q (Err Refusal.StoreFull) (Ok (suc box.accepted)))))))
     go false s a a' f f' r r' q q' = offer_unsound s
     go true s false a f f' r r' q q' = no_connection_lem s a
     go true s true a false f r r' q q' = wrong_length s a f
@@ -119,13 +119,13 @@ pub data StepRefused (box : Box) : Refusal → Type 0 where
       turn_due box && tag_zero_waits (queues_taken box.link box.queues) ≡ true → StepRefused box Refusal.TurnBlocked
 
 -- What an answer to a step says.
-abbrev pub StepSays : Box → Stepped → Type 0
-StepSays box (Stepped.Refused why) = StepRefused box why
-StepSays box Stepped.Idle = StepGoes box × (link_taken box.link box.queues ≡ free)
-StepSays box (Stepped.Sending serial left) =
-    StepGoes box × (p : Packet) × (units : ℕ) × (link_taken box.link box.queues ≡ carries p units) × (leb units 1 ≡ false)
-StepSays box (Stepped.Departed serial connection arrival departure) =
-    StepGoes box × (p : Packet) × (units : ℕ) × (link_taken box.link box.queues ≡ carries p units) × (leb units 1 ≡ true) ×
+abbrev pub StepSays : Box → Result Stepped Refusal → Type 0
+StepSays box (Err why) = StepRefused box why
+StepSays box (Ok Stepped.Idle) = StepGoes box × (link_taken box.link box.queues ≡ Link.Free)
+StepSays box (Ok (Stepped.Sending serial left)) =
+    StepGoes box × (p : Packet) × (units : ℕ) × (link_taken box.link box.queues ≡ Link.Carries p units) × (leb units 1 ≡ false)
+StepSays box (Ok (Stepped.Departed serial connection arrival departure)) =
+    StepGoes box × (p : Packet) × (units : ℕ) × (link_taken box.link box.queues ≡ Link.Carries p units) × (leb units 1 ≡ true) ×
     (serial ≡ p.serial) × (connection ≡ p.connection) × (arrival ≡ p.arrival) × (departure ≡ suc box.counter)
 
 -- The answer to a step says what it must.
@@ -135,9 +135,9 @@ step_says box =
     go (sound box) refl (leb last_slot box.counter) refl (turn_due box && tag_zero_waits (queues_taken box.link box.queues)) refl
     (link_taken box.link box.queues) refl
   where
-    sent : StepGoes box → (p : Packet) (units : ℕ) → link_taken box.link box.queues ≡ carries p units → (b : Bool) → leb units 1 ≡ b →
-        StepSays box (cond b (Stepped.Departed p.serial p.connection p.arrival (suc box.counter))
-        (Stepped.Sending p.serial (units - 1)))
+    sent : StepGoes box → (p : Packet) (units : ℕ) → link_taken box.link box.queues ≡ Link.Carries p units → (b : Bool) → leb units 1 ≡ b →
+        StepSays box (Ok (cond b (Stepped.Departed p.serial p.connection p.arrival (suc box.counter))
+        (Stepped.Sending p.serial (units - 1))))
     sent g p units l true e = (g, p, units, l, e, refl, refl, refl, refl)
     sent g p units l false e = (g, p, units, l, e)
 
@@ -145,12 +145,12 @@ step_says box =
         (f : Bool) → turn_due box && tag_zero_waits (queues_taken box.link box.queues) ≡ f →
         (l : Link) → link_taken box.link box.queues ≡ l →
         StepSays box
-        (cond (not s) (Stepped.Refused Refusal.NotSound)
-        (cond a (Stepped.Refused Refusal.CounterEnded)
-        (cond f (Stepped.Refused Refusal.TurnBlocked) (sent_answer (suc box.counter) l))))
+        (cond (not s) (Err Refusal.NotSound)
+        (cond a (Err Refusal.CounterEnded)
+        (cond f (Err Refusal.TurnBlocked) (Ok (sent_answer (suc box.counter) l)))))
     go false s a a' f f' l l' = step_unsound s
     go true s true a f f' l l' = counter_ended s a
     go true s false a true f l l' = turn_blocked_lem s a f
-    go true s false a false f free l = (record { was_sound = s; not_ended = a; not_blocked = f }, l)
-    go true s false a false f (carries p units) l =
+    go true s false a false f Link.Free l = (record { was_sound = s; not_ended = a; not_blocked = f }, l)
+    go true s false a false f (Link.Carries p units) l =
         sent (record { was_sound = s; not_ended = a; not_blocked = f }) p units l (leb units 1) refl

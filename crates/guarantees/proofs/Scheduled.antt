@@ -10,7 +10,7 @@ use Rattle.laws.specs.Sums.{sum_of}
 use Rattle.laws.specs.Putting.{Same}
 use Rattle.meaning.specs.Numbers.{Settings}
 use Rattle.meaning.specs.declared.Packet.{Packet}
-use Rattle.meaning.specs.Box.{Box, Link, waiting, rank_in}
+use Rattle.meaning.specs.Box.{Box, waiting, rank_in}
 use Rattle.meaning.specs.Queues.{empty_queues}
 use Rattle.meaning.specs.Calls.{new_box, with_standing, after_offer}
 use Rattle.meaning.specs.Step.{link_sent, moved}
@@ -24,6 +24,7 @@ use Rattle.guarantees.proofs.Moves.{Move, refused, joins, accepts, idles, sends,
 use Rattle.guarantees.proofs.Moves.{accepting, AcceptSays}
 use Rattle.guarantees.proofs.Effects.{accepted_put, Taking, nothing, takes, carrying, taking, stepped_same}
 use Rattle.guarantees.proofs.Known.{Known}
+use Rattle.meaning.specs.declared.Link.{Link}
 
 -- With a packet, q has every accepted packet that goes before it.
 abbrev pub Closed : Box → List Packet → (Packet → Bool) → Type 0

@@ -12,39 +12,39 @@ use Rattle.laws.specs.Sums.{sum_of}
 use Rattle.laws.specs.SumLaws.{given, given_true, given_false, sum_zero}
 use Rattle.laws.specs.Putting.{Put, Same}
 use Rattle.meaning.specs.declared.Packet.{Packet}
-use Rattle.meaning.specs.Box.{free, carries}
 use Rattle.meaning.specs.Step.{link_sent}
 use Rattle.guarantees.proofs.Backlog.{waiting_work, link_work, link_other, Backlog}
+use Rattle.meaning.specs.declared.Link.{Link}
 
 -- What a sent unit leaves on the link: nothing, or the same packet with a unit less.
 pub sent_cases : (p : Packet) (left : ℕ)
-    → ((left ≤ 1) × (link_sent (carries p left) ≡ free)) ⊎ ((2 ≤ left) × (link_sent (carries p left) ≡ carries p (left - 1)))
+    → ((left ≤ 1) × (link_sent (Link.Carries p left) ≡ Link.Free)) ⊎ ((2 ≤ left) × (link_sent (Link.Carries p left) ≡ Link.Carries p (left - 1)))
 unfolding link_sent
 sent_cases p left = go (leb left 1) refl
   where
     go : (b : Bool) → leb left 1 ≡ b →
-        ((left ≤ 1) × (cond b free (carries p (left - 1)) ≡ free)) ⊎
-        ((2 ≤ left) × (cond b free (carries p (left - 1)) ≡ carries p (left - 1)))
+        ((left ≤ 1) × (cond b Link.Free (Link.Carries p (left - 1)) ≡ Link.Free)) ⊎
+        ((2 ≤ left) × (cond b Link.Free (Link.Carries p (left - 1)) ≡ Link.Carries p (left - 1)))
     go true e = inl (leb-true left 1 e, refl)
     go false e = inr (leb-false left 1 e, refl)
 
 -- The packet that a sent unit leaves on the link is the one that was there.
-pub sent_is : (p : Packet) (l : ℕ) (x : Packet) (left : ℕ) → link_sent (carries p l) ≡ carries x left → x ≡ p
+pub sent_is : (p : Packet) (l : ℕ) (x : Packet) (left : ℕ) → link_sent (Link.Carries p l) ≡ Link.Carries x left → x ≡ p
 sent_is p l x left h =
-    ⊎_elim (λ (c : (l ≤ 1) × (link_sent (carries p l) ≡ free)). absurd (let i = c.1 in let z : ◌≡◌ {A = ℕ} 0 1 = cc in omega arith))
-    (λ (c : (2 ≤ l) × (link_sent (carries p l) ≡ carries p (l - 1))). let i = c.1 in cc) (sent_cases p l)
+    ⊎_elim (λ (c : (l ≤ 1) × (link_sent (Link.Carries p l) ≡ Link.Free)). absurd (let i = c.1 in let z : ◌≡◌ {A = ℕ} 0 1 = cc in omega arith))
+    (λ (c : (2 ≤ l) × (link_sent (Link.Carries p l) ≡ Link.Carries p (l - 1))). let i = c.1 in cc) (sent_cases p l)
 
 module _ (q : Packet → Bool) where
   -- The packet that is taken for a free link is of q if a packet of q waits, so the fact is kept.
   pub take_keeps : (slot : ℕ) (W W₁ : List Packet) (H : List Packet) (p : Packet) → Put p W₁ W → Memᴰ p W →
       ((x : Packet) → Memᴰ x W₁ → Memᴰ x W) → ((x : Packet) → Memᴰ x W₁ → q x ≡ true → q p ≡ true) →
-      Backlog q slot W free H → Backlog q slot W₁ (carries p p.units) H
+      Backlog q slot W Link.Free H → Backlog q slot W₁ (Link.Carries p p.units) H
   unfolding waiting_work link_work link_other
   take_keeps slot W W₁ H p put there others closed (inl z) =
       inl (let s = put.sums (λ p. given (q p) p.units) in omega arith)
   take_keeps slot W W₁ H p put there others closed (inr b) = ⊎_elim mine other (bool_cases (q p))
     where
-      mine : q p ≡ true → Backlog q slot W₁ (carries p p.units) H
+      mine : q p ≡ true → Backlog q slot W₁ (Link.Carries p p.units) H
       mine e =
           inr (record {
             since = b.since;
@@ -57,7 +57,7 @@ module _ (q : Packet → Bool) where
             way = b.way;
           })
 
-      other : q p ≡ false → Backlog q slot W₁ (carries p p.units) H
+      other : q p ≡ false → Backlog q slot W₁ (Link.Carries p p.units) H
       other e =
           inl (let g = given_false p.units e in
           let w = sum_zero (λ p. given (q p) p.units) W₁
@@ -67,9 +67,9 @@ module _ (q : Packet → Bool) where
 
   -- One unit less is to be sent of what is on the link.
   sent_work : (p : Packet) (left : ℕ) → 1 ≤ left →
-      (link_work q (link_sent (carries p left)) + link_other q (link_sent (carries p left)) + 1 ≡
-      link_work q (carries p left) + link_other q (carries p left)) ×
-      (link_work q (link_sent (carries p left)) ≤ link_work q (carries p left))
+      (link_work q (link_sent (Link.Carries p left)) + link_other q (link_sent (Link.Carries p left)) + 1 ≡
+      link_work q (Link.Carries p left) + link_other q (Link.Carries p left)) ×
+      (link_work q (link_sent (Link.Carries p left)) ≤ link_work q (Link.Carries p left))
   unfolding link_work link_other
   sent_work p left h =
       ⊎_elim (λ c. rw c.1 (last c.0 (bool_cases (q p)))) (λ c. rw c.1 (more c.0 (bool_cases (q p)))) (sent_cases p left)
@@ -92,7 +92,7 @@ module _ (q : Packet → Bool) where
 
   -- Sending a unit keeps the fact: one unit less is to be sent, and one slot has passed.
   pub send_keeps : (slot : ℕ) (W W' : List Packet) (H : List Packet) (p : Packet) (left : ℕ) → 1 ≤ left → Same W W' →
-      Backlog q slot W (carries p left) H → Backlog q (suc slot) W' (link_sent (carries p left)) H
+      Backlog q slot W (Link.Carries p left) H → Backlog q (suc slot) W' (link_sent (Link.Carries p left)) H
   unfolding waiting_work
   send_keeps slot W W' H p left h same (inl z) =
       inl (let s = same.sums (λ p. given (q p) p.units) in let w = (sent_work p left h).1 in omega arith)
@@ -108,6 +108,6 @@ module _ (q : Packet → Bool) where
       })
 
   -- A step with nothing to send leaves nothing of q.
-  pub idle_keeps : (slot : ℕ) (W : List Packet) (H : List Packet) → Same [] W → Backlog q slot W free H
+  pub idle_keeps : (slot : ℕ) (W : List Packet) (H : List Packet) → Same [] W → Backlog q slot W Link.Free H
   unfolding waiting_work link_work sum_of
   idle_keeps slot W H same = inl (let s = same.sums (λ p. given (q p) p.units) in omega arith)

@@ -12,11 +12,10 @@ use Rattle.laws.specs.Tests.{within, within_facts, within_test, bool_cases}
 use Rattle.laws.specs.Sums.{sum_of}
 use Rattle.laws.specs.SumLaws.{given, given_true, given_false, sum_member, sum_one, sum_zero, sum_found}
 use Rattle.meaning.specs.declared.Refusal.{Refusal}
-use Rattle.meaning.specs.declared.Offered.{Offered}
 use Rattle.meaning.specs.Numbers.{Settings, settings_allowed, most_waiting}
 use Rattle.meaning.specs.Envelope.{may_have, fits, conforms}
 use Rattle.meaning.specs.declared.Packet.{Packet}
-use Rattle.meaning.specs.Box.{Box, Link, free, carries, connection, stands, waiting, on_link, sound}
+use Rattle.meaning.specs.Box.{Box, connection, stands, waiting, on_link, sound}
 use Rattle.meaning.specs.Calls.{new_box, allowance, offer_answer}
 use Rattle.meaning.proofs.Facts.{sound_facts}
 use Rattle.meaning.proofs.KeepsSound.{new_box_sound}
@@ -29,6 +28,8 @@ use Rattle.guarantees.proofs.Metered.{meter_answers}
 use Rattle.guarantees.proofs.OnTime.{in_box_known}
 use Rattle.guarantees.proofs.Once.{of_packets, of_departures}
 use Rattle.guarantees.proofs.Always.{Always, always, sound_along}
+use Rattle.std.proofs.Common.{Result, Ok, Err}
+use Rattle.meaning.specs.declared.Link.{Link}
 
 -- The packet of this serial, connection and arrival.
 marks : ℕ → ℕ → ℕ → ℕ → ℕ → ℕ → Bool
@@ -52,7 +53,7 @@ marks_self s c a =
 
 -- A sound box gives 9 to an offer of permitted length whose connection has no credit left.
 nine_given : (box : Box) (n units : ℕ) → sound box ≡ true → stands box n ≡ true → within 1 units (connection box n).longest ≡ true →
-    conforms (connection box n) (allowance box n) box.counter ≡ false → offer_answer box n units ≡ Offered.Refused Refusal.NotFitting
+    conforms (connection box n) (allowance box n) box.counter ≡ false → offer_answer box n units ≡ Err Refusal.NotFitting
 unfolding offer_answer
 nine_given box n units a b c d = rw (a, b, c, d)
 
@@ -96,8 +97,8 @@ module _ (set : Settings) (allowed : settings_allowed set ≡ true) (calls : Lis
   pub turned_away_only_when_full : (n units : ℕ) → stands (box_of set calls) n ≡ true →
       within 1 units (connection (box_of set calls) n).longest ≡ true →
       fits (may_have (connection (box_of set calls) n)) (slots_of n (accepted_of set calls)) (box_of set calls).counter ≡ true →
-      (offer_answer (box_of set calls) n units ≡ Offered.Accepted (suc (box_of set calls).accepted)) ⊎
-      ((offer_answer (box_of set calls) n units ≡ Offered.Refused Refusal.StoreFull) × (length (waiting (box_of set calls)) ≡ most_waiting))
+      (offer_answer (box_of set calls) n units ≡ Ok (suc (box_of set calls).accepted)) ⊎
+      ((offer_answer (box_of set calls) n units ≡ Err Refusal.StoreFull) × (length (waiting (box_of set calls)) ≡ most_waiting))
   turned_away_only_when_full n units s l f = go (offer_answer box n units) refl (offer_says box n units)
     where
       box : Box
@@ -106,29 +107,29 @@ module _ (set : Settings) (allowed : settings_allowed set ≡ true) (calls : Lis
       conforming : conforms (connection box n) (allowance box n) box.counter ≡ true
       conforming = record_answers_stretches n s ∙ f
 
-      go : (o : Offered) → offer_answer box n units ≡ o → OfferSays box n units o →
-          (o ≡ Offered.Accepted (suc box.accepted)) ⊎ ((o ≡ Offered.Refused Refusal.StoreFull) × (length (waiting box) ≡ most_waiting))
-      go (Offered.Refused why) e (offer_unsound u) = absurd (true≢false (sym every_run_sound ∙ u))
-      go (Offered.Refused why) e (no_connection_lem u a) = absurd (true≢false (sym s ∙ a))
-      go (Offered.Refused why) e (wrong_length u a w) = absurd (true≢false (sym l ∙ w))
-      go (Offered.Refused why) e (not_fitting u a w c) = absurd (true≢false (sym conforming ∙ c))
-      go (Offered.Refused why) e (store_full u a w c q) =
+      go : (o : Result ℕ Refusal) → offer_answer box n units ≡ o → OfferSays box n units o →
+          (o ≡ Ok (suc box.accepted)) ⊎ ((o ≡ Err Refusal.StoreFull) × (length (waiting box) ≡ most_waiting))
+      go (Err why) e (offer_unsound u) = absurd (true≢false (sym every_run_sound ∙ u))
+      go (Err why) e (no_connection_lem u a) = absurd (true≢false (sym s ∙ a))
+      go (Err why) e (wrong_length u a w) = absurd (true≢false (sym l ∙ w))
+      go (Err why) e (not_fitting u a w c) = absurd (true≢false (sym conforming ∙ c))
+      go (Err why) e (store_full u a w c q) =
           let k : most_waiting ≤ length (waiting box) = leb-true _ _ q in
           let m = (sound_facts box every_run_sound).waiting_most in
           inr (refl, omega arith)
-      go (Offered.Accepted serial) e says = inl (ap Offered.Accepted says.5)
+      go (Ok serial) e says = inl (ap Ok says.5)
 
   -- Answer 9 is given to an offer of permitted length exactly when the packet does not fit the envelope.
   pub nine_exactly_when_it_does_not_fit : (n units : ℕ) → stands (box_of set calls) n ≡ true →
       within 1 units (connection (box_of set calls) n).longest ≡ true →
-      (offer_answer (box_of set calls) n units ≡ Offered.Refused Refusal.NotFitting) ↔
+      (offer_answer (box_of set calls) n units ≡ Err Refusal.NotFitting) ↔
       (fits (may_have (connection (box_of set calls) n)) (slots_of n (accepted_of set calls)) (box_of set calls).counter ≡ false)
   nine_exactly_when_it_does_not_fit n units s l = (forth, back)
     where
       box : Box
       box = box_of set calls
 
-      forth : offer_answer box n units ≡ Offered.Refused Refusal.NotFitting
+      forth : offer_answer box n units ≡ Err Refusal.NotFitting
           → fits (may_have (connection box n)) (slots_of n (accepted_of set calls)) box.counter ≡ false
       forth e = sym (record_answers_stretches n s) ∙ not_conforming (rw e at (offer_says box n units))
         where
@@ -137,7 +138,7 @@ module _ (set : Settings) (allowed : settings_allowed set ≡ true) (calls : Lis
           not_conforming (not_fitting u a w c) = c
 
       back : fits (may_have (connection box n)) (slots_of n (accepted_of set calls)) box.counter ≡ false
-          → offer_answer box n units ≡ Offered.Refused Refusal.NotFitting
+          → offer_answer box n units ≡ Err Refusal.NotFitting
       back f = nine_given box n units every_run_sound s l (record_answers_stretches n s ∙ f)
 
   -- At most once: every accepted packet is exactly once among waiting, on the link and departed.
@@ -226,8 +227,8 @@ module _ (set : Settings) (allowed : settings_allowed set ≡ true) (calls : Lis
           sum_zero (λ x. given (t x.serial x.connection x.arrival) 1) (waiting box) (λ x n. given_false 1 (not_inside x (inl n)))
 
       none_carried : (l : Link) → box.link ≡ l → of_packets (λ s c a. given (t s c a) 1) (on_link l) ≡ 0
-      none_carried free e = unfold of_packets on_link sum_of in refl
-      none_carried (carries x left) e =
+      none_carried Link.Free e = unfold of_packets on_link sum_of in refl
+      none_carried (Link.Carries x left) e =
           unfold of_packets on_link in
           (sum_one (λ (x : Packet). given (t x.serial x.connection x.arrival) 1) x ∙ given_false 1 (not_inside x (inr (left, e))))
 

@@ -15,28 +15,30 @@ use Rattle.meaning.specs.declared.Stepped.{Stepped}
 use Rattle.meaning.specs.Numbers.{Settings, bound, settings_allowed, last_slot}
 use Rattle.meaning.specs.Queues.{turn_at, rank, without_lowest_head, tag_zero_waits}
 use Rattle.meaning.specs.declared.Packet.{Packet}
-use Rattle.meaning.specs.Box.{Box, Link, free, carries, connection, waiting, rank_in, in_their_queues}
+use Rattle.meaning.specs.Box.{Box, connection, waiting, rank_in, in_their_queues}
 use Rattle.meaning.specs.Step.{queues_taken, turn_due, step_answer, moved, after_step}
 use Rattle.meaning.proofs.Facts.{SettingsFacts, settings_facts, sound_facts}
 use Rattle.guarantees.specs.Runs.{Call, due_by, box_of}
 use Rattle.guarantees.proofs.Saying.{StepRefused, step_unsound, counter_ended, turn_blocked_lem, StepSays, step_says}
 use Rattle.guarantees.proofs.Statements.{every_run_sound, in_the_box_before_bound}
+use Rattle.std.proofs.Common.{Result, Ok, Err}
+use Rattle.meaning.specs.declared.Link.{Link}
 
 -- A packet that is in tag 0 once the next one is taken waits, and was in tag 0.
 left_in_tag_zero : (box : Box) (qs : List (List Packet)) (l : Link) → in_their_queues box 0 qs ≡ true
     → tag_zero_waits (queues_taken l qs) ≡ true →
     (p : Packet) × Memᴰ p (flatten qs) × (rank_in box p ≡ box.counter / box.settings.interval + 0)
 unfolding queues_taken tag_zero_waits without_lowest_head in_their_queues flatten
-left_in_tag_zero box [] free e t = absurd (true≢false (sym t))
-left_in_tag_zero box [] (carries x left) e t = absurd (true≢false (sym t))
-left_in_tag_zero box ([] ∷ qs) free e t = absurd (true≢false (sym t))
-left_in_tag_zero box ([] ∷ qs) (carries x left) e t = absurd (true≢false (sym t))
-left_in_tag_zero box ((y ∷ []) ∷ qs) free e t = absurd (true≢false (sym t))
-left_in_tag_zero box ((y ∷ p ∷ q) ∷ qs) free e t =
+left_in_tag_zero box [] Link.Free e t = absurd (true≢false (sym t))
+left_in_tag_zero box [] (Link.Carries x left) e t = absurd (true≢false (sym t))
+left_in_tag_zero box ([] ∷ qs) Link.Free e t = absurd (true≢false (sym t))
+left_in_tag_zero box ([] ∷ qs) (Link.Carries x left) e t = absurd (true≢false (sym t))
+left_in_tag_zero box ((y ∷ []) ∷ qs) Link.Free e t = absurd (true≢false (sym t))
+left_in_tag_zero box ((y ∷ p ∷ q) ∷ qs) Link.Free e t =
     let here : Packet → Bool = λ p. eqb (rank_in box p) (box.counter / box.settings.interval + 0) in
     let h = (and-eq-true_iff (every here (y ∷ p ∷ q)) (in_their_queues box 1 qs)).0 e in
     (p, Memᴰ.tail (Memᴰ.head refl), eqb-true _ _ (every_at here (y ∷ p ∷ q) h.0 (Memᴰ.tail (Memᴰ.head refl))))
-left_in_tag_zero box ((p ∷ q) ∷ qs) (carries x left) e t =
+left_in_tag_zero box ((p ∷ q) ∷ qs) (Link.Carries x left) e t =
     let here : Packet → Bool = λ p. eqb (rank_in box p) (box.counter / box.settings.interval + 0) in
     let h = (and-eq-true_iff (every here (p ∷ q)) (in_their_queues box 1 qs)).0 e in
     (p, Memᴰ.head refl, eqb-true _ _ (every_at here (p ∷ q) h.0 (Memᴰ.head refl)))
@@ -57,7 +59,7 @@ tag_zero_is_late box f t p r =
 
 module _ (set : Settings) (allowed : settings_allowed set ≡ true) (calls : List Call) where
   -- Answer 11 is never given in a run.
-  pub turn_never_blocked : step_answer (box_of set calls) ≡ Stepped.Refused Refusal.TurnBlocked → ⊥
+  pub turn_never_blocked : step_answer (box_of set calls) ≡ Err Refusal.TurnBlocked → ⊥
   turn_never_blocked e = go (rw e at (step_says (box_of set calls)))
     where
       go : StepRefused (box_of set calls) Refusal.TurnBlocked → ⊥
@@ -78,10 +80,10 @@ module _ (set : Settings) (allowed : settings_allowed set ≡ true) (calls : Lis
       box : Box
       box = box_of set calls
 
-      go : (a : Stepped) → step_answer box ≡ a → StepSays box a → (after_step box a).counter ≡ suc box.counter
-      go Stepped.Idle e s = unfold after_step moved in refl
-      go (Stepped.Sending serial left) e s = unfold after_step moved in refl
-      go (Stepped.Departed serial connection arrival departure) e s = unfold after_step moved in refl
-      go (Stepped.Refused why) e (step_unsound u) = absurd (true≢false (sym (every_run_sound set allowed calls) ∙ u))
-      go (Stepped.Refused why) e (counter_ended u n) = absurd (let l = leb-true last_slot box.counter n in omega arith)
-      go (Stepped.Refused why) e (turn_blocked_lem u n d) = absurd (turn_never_blocked e)
+      go : (a : Result Stepped Refusal) → step_answer box ≡ a → StepSays box a → (after_step box a).counter ≡ suc box.counter
+      go (Ok Stepped.Idle) e s = unfold after_step moved in refl
+      go (Ok (Stepped.Sending serial left)) e s = unfold after_step moved in refl
+      go (Ok (Stepped.Departed serial connection arrival departure)) e s = unfold after_step moved in refl
+      go (Err why) e (step_unsound u) = absurd (true≢false (sym (every_run_sound set allowed calls) ∙ u))
+      go (Err why) e (counter_ended u n) = absurd (let l = leb-true last_slot box.counter n in omega arith)
+      go (Err why) e (turn_blocked_lem u n d) = absurd (turn_never_blocked e)

@@ -10,16 +10,17 @@ use native.Mathlib.Omega.{arith}
 use Rattle.laws.specs.Tests.{within_facts, every_at}
 use Rattle.laws.specs.Sums.{sum_of}
 use Rattle.meaning.specs.declared.Packet.{Packet}
-use Rattle.meaning.specs.Box.{Box, Link, free, carries, waiting, on_link, packets, packet_kept, link_kept, sound}
+use Rattle.meaning.specs.Box.{Box, waiting, on_link, packets, packet_kept, link_kept, sound}
 use Rattle.meaning.specs.Step.{link_taken, queues_taken, link_sent, moved}
 use Rattle.meaning.proofs.Facts.{sound_facts, packet_facts}
 use Rattle.guarantees.proofs.Sending.{sent_cases}
 use Rattle.guarantees.proofs.Effects.{Taking, nothing, takes, carrying, taking, stepped_same}
+use Rattle.meaning.specs.declared.Link.{Link}
 
 -- Units that the packet on the link has still to send.
 unfoldable pub left_on : Link → ℕ
-left_on free = 0
-left_on (carries p left) = left
+left_on Link.Free = 0
+left_on (Link.Carries p left) = left
 
 -- Units that the box has still to send.
 unfoldable pub to_send : Box → ℕ
@@ -27,11 +28,11 @@ to_send box = sum_of (λ p. p.units) (waiting box) + left_on box.link
 
 -- Units that a step sends, by the link once a packet is taken: one, or none where there is none to send.
 unfoldable pub units_sent : Link → ℕ
-units_sent free = 0
-units_sent (carries p left) = 1
+units_sent Link.Free = 0
+units_sent (Link.Carries p left) = 1
 
 -- What a sent unit leaves on the link is one less.
-one_less : (p : Packet) (left : ℕ) → 1 ≤ left → left_on (link_sent (carries p left)) + 1 ≡ left
+one_less : (p : Packet) (left : ℕ) → 1 ≤ left → left_on (link_sent (Link.Carries p left)) + 1 ≡ left
 unfolding left_on
 one_less p left h = ⊎_elim (λ c. rw c.1 (let l = c.0 in omega arith)) (λ c. rw c.1 (let l = c.0 in omega arith)) (sent_cases p left)
 
@@ -43,7 +44,7 @@ waiting_unit box s p m =
     (Memᴰ.append_left (on_link box.link) m))).units_least
 
 -- A link that carries a packet in a sound box has a unit left to send.
-link_unit : (box : Box) → sound box ≡ true → (p : Packet) (left : ℕ) → box.link ≡ carries p left → 1 ≤ left
+link_unit : (box : Box) → sound box ≡ true → (p : Packet) (left : ℕ) → box.link ≡ Link.Carries p left → 1 ≤ left
 unfolding link_kept
 link_unit box s p left e = (within_facts 1 left (p.units - 1) (subst (λ l. link_kept l ≡ true) e (sound_facts box s).link_kept_lem)).0
 

@@ -1,10 +1,10 @@
 -- Isolation: what one connection asks of a run, and what it is told.
-use Rattle.std.specs.Prelude.{ℕ, Bool, false, cond, not, List, [], ◌∷◌, ◌++◌, eqb}
+use Rattle.std.specs.Prelude.{ℕ, Bool, false, cond, not, List, [], ◌∷◌, ◌++◌, eqb, Result, Ok, Err}
 use Rattle.laws.specs.Tests.{every}
-use Rattle.meaning.specs.declared.Offered.{Offered}
 use Rattle.meaning.specs.declared.Connection.{Connection}
 use Rattle.meaning.specs.Answers.{offered}
 use Rattle.guarantees.specs.Runs.{Call, admit, offer, step, Reply, to_admission, to_offer, to_step, Event}
+use Rattle.meaning.specs.declared.Refusal.{Refusal}
 
 -- An admission at a slot, or an offer of the one connection at a slot, with its length.
 pub data Ask : Type 0 where
@@ -23,12 +23,12 @@ asked n [] = []
 asked n (e ∷ es) = ask_of n e.slot e.call ++ asked n es
 
 -- An answer with "serials aside because others' packets are counted in them".
-unfoldable pub serial_aside : Offered → Offered
-serial_aside (Offered.Accepted serial) = Offered.Accepted 0
-serial_aside (Offered.Refused why) = Offered.Refused why
+unfoldable pub serial_aside : Result ℕ Refusal → Result ℕ Refusal
+serial_aside (Ok serial) = Ok 0
+serial_aside (Err why) = Err why
 
 -- The offer answer that this call gave connection n, if any.
-unfoldable pub answer_to : ℕ → Call → Reply → List Offered
+unfoldable pub answer_to : ℕ → Call → Reply → List (Result ℕ Refusal)
 answer_to n (admit c) r = []
 answer_to n step r = []
 answer_to n (offer m units) (to_admission a) = []
@@ -36,7 +36,7 @@ answer_to n (offer m units) (to_step a) = []
 answer_to n (offer m units) (to_offer a) = cond (eqb m n) (serial_aside a ∷ []) []
 
 -- The offer answers that a run gave connection n.
-unfoldable pub told : ℕ → List Event → List Offered
+unfoldable pub told : ℕ → List Event → List (Result ℕ Refusal)
 told n [] = []
 told n (e ∷ es) = answer_to n e.call e.answer ++ told n es
 

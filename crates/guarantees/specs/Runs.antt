@@ -1,10 +1,8 @@
 -- A run: any list of admissions, offers and steps from a new box, refused ones among them, and the history that its own calls and
 -- answers tell.
-use Rattle.std.specs.Prelude.{ℕ, zero, suc, ◌+◌, ◌≤◌, ◌≡◌, Bool, true, cond, ◌&&◌, ◌||◌, not, ◌⊎◌, eqb, ltb}
+use Rattle.std.specs.Prelude.{ℕ, zero, suc, ◌+◌, ◌≤◌, ◌≡◌, Bool, true, cond, ◌&&◌, ◌||◌, not, ◌⊎◌, eqb, ltb, Result, Ok, Err}
 use mathlib.Core.List.{List, [], ◌∷◌, ◌++◌, Memᴰ}
 use Rattle.laws.specs.Tests.{every}
-use Rattle.meaning.specs.declared.Admitted.{Admitted}
-use Rattle.meaning.specs.declared.Offered.{Offered}
 use Rattle.meaning.specs.declared.Stepped.{Stepped}
 use Rattle.laws.specs.Sums.{sum_of}
 use Rattle.laws.specs.SumLaws.{given}
@@ -12,9 +10,11 @@ use Rattle.meaning.specs.declared.Connection.{Connection}
 use Rattle.meaning.specs.Numbers.{Settings, bound}
 use Rattle.meaning.specs.Envelope.{may_have, count_in}
 use Rattle.meaning.specs.declared.Packet.{Packet}
-use Rattle.meaning.specs.Box.{Box, carries, connection, waiting}
+use Rattle.meaning.specs.Box.{Box, connection, waiting}
 use Rattle.meaning.specs.Calls.{new_box, admission_answer, after_admission, offer_answer, after_offer}
 use Rattle.meaning.specs.Step.{step_answer, after_step}
+use Rattle.meaning.specs.declared.Refusal.{Refusal}
+use Rattle.meaning.specs.declared.Link.{Link}
 
 -- A call: a connection asks for admission, a packet of this connection and length is offered, or a step.
 pub data Call : Type 0 where
@@ -24,9 +24,9 @@ pub data Call : Type 0 where
 
 -- The answer to a call.
 pub data Reply : Type 0 where
-  to_admission : Admitted → Reply
-  to_offer : Offered → Reply
-  to_step : Stepped → Reply
+  to_admission : Result ℕ Refusal → Reply
+  to_offer : Result ℕ Refusal → Reply
+  to_step : Result Stepped Refusal → Reply
 
 -- What the box answers.
 unfoldable pub reply : Box → Call → Reply
@@ -57,9 +57,9 @@ trace box [] = []
 trace box (c ∷ cs) = record { slot = box.counter; call = c; answer = reply box c } ∷ trace (after box c) cs
 
 -- The packet that an offer at this slot brought in, if its answer took it.
-unfoldable pub offer_taken : ℕ → ℕ → ℕ → Offered → List Packet
-offer_taken slot n units (Offered.Accepted serial) = record { serial = serial; connection = n; units = units; arrival = slot } ∷ []
-offer_taken slot n units (Offered.Refused why) = []
+unfoldable pub offer_taken : ℕ → ℕ → ℕ → Result ℕ Refusal → List Packet
+offer_taken slot n units (Ok serial) = record { serial = serial; connection = n; units = units; arrival = slot } ∷ []
+offer_taken slot n units (Err why) = []
 
 -- The packet that a call and its answer brought in, if any.
 unfoldable pub packet_taken : ℕ → Call → Reply → List Packet
@@ -92,12 +92,12 @@ pub record Departure : Type 0 where
   pub departure : ℕ
 
 -- The departure that the answer of a step reports, if any.
-unfoldable pub step_left : Stepped → List Departure
-step_left (Stepped.Departed serial connection arrival departure) =
+unfoldable pub step_left : Result Stepped Refusal → List Departure
+step_left (Ok (Stepped.Departed serial connection arrival departure)) =
     record { serial = serial; connection = connection; arrival = arrival; departure = departure } ∷ []
-step_left Stepped.Idle = []
-step_left (Stepped.Sending serial left) = []
-step_left (Stepped.Refused why) = []
+step_left (Ok Stepped.Idle) = []
+step_left (Ok (Stepped.Sending serial left)) = []
+step_left (Err why) = []
 
 -- The departure that an answer reports, if any.
 unfoldable pub packet_left : Reply → List Departure
@@ -130,7 +130,7 @@ times_departed n gs = sum_of (λ g. given (eqb g.serial n) 1) gs
 
 -- A packet is in the box: it waits or is on the link.
 abbrev pub InBox : Box → Packet → Type 0
-InBox box p = Memᴰ p (waiting box) ⊎ ((left : ℕ) × (box.link ≡ carries p left))
+InBox box p = Memᴰ p (waiting box) ⊎ ((left : ℕ) × (box.link ≡ Link.Carries p left))
 
 -- The slot by which a packet of connection n that arrived at this slot is to have departed: its class's bound later.
 unfoldable pub due_by : Box → ℕ → ℕ → ℕ

@@ -5,10 +5,10 @@ use mathlib.Core.List.{List, [], ◌∷◌, ◌++◌, map, flatten, append_assoc
 use native.Mathlib.Omega.{arith}
 use lib.ListN.{length}
 use Rattle.laws.specs.Series.{map-append, flatten_append}
-use Rattle.meaning.specs.Run.{Line}
 use Rattle.meaning.specs.Lines.{line_text, text_of}
 use Rattle.lines.specs.Put.{Room, Put}
 use Rattle.lines.proofs.Puts.{put_nothing, then, room_after, room_first, put_length}
+use Rattle.meaning.specs.declared.Line.{Line}
 
 -- The text of lines is that of the first, and then that of the others.
 pub text_cons : (l : Line) (ls : List Line) → text_of (l ∷ ls) ≡ line_text l ++ text_of ls

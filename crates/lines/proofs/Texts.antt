@@ -1,7 +1,7 @@
 -- The text of a line, as it is put: a fixed word with its space, then each number with the byte after it.
 use Prim.Native.Nat.{ℕ, suc, zero, ◌+◌, ◌≤◌, ◌<◌}
 use Prim.Native.String.{String}
-use mathlib.Core.Path.{◌≡◌, refl, sym, ap, ◌∙◌}
+use mathlib.Core.Path.{◌≡◌, refl, sym, ap, subst, ◌∙◌}
 use mathlib.Core.Bool.{cond}
 use mathlib.Core.List.{List, [], ◌∷◌, ◌++◌, append_assoc, append-nil}
 use native.Mathlib.Numerals.{add-one}
@@ -9,8 +9,9 @@ use native.Mathlib.Omega.{arith}
 use borrow.Author.Tests.{lt-ltb}
 use lib.Dec.{leb-suc-suc}
 use lib.ListN.{length, get_or, drop}
-use Rattle.meaning.specs.Lines.{ascii, decimal, numbers_text, line_of}
-use Rattle.lines.specs.Put.{field, byte_after, fields, line}
+use Rattle.meaning.specs.Lines.{ascii, decimal, numbers_text, line_of, line_text}
+use Rattle.meaning.specs.declared.Line.{Line}
+use Rattle.lines.specs.Put.{Put, Room, field, byte_after, fields, line}
 
 -- Numbers with the byte after each are the numbers with spaces between them and a newline at the end.
 numbers_fields : (n : ℕ) (ns : List ℕ) → numbers_text (n ∷ ns) ++ ascii "\n" ≡ fields (n ∷ ns)
@@ -25,6 +26,18 @@ unfolding line_of
 line_text_lem word n ns =
     append_assoc (ascii word ++ ascii " ") (numbers_text (n ∷ ns)) (ascii "\n") ∙
     ap (λ l. ascii word ++ ascii " " ++ l) (numbers_fields n ns)
+
+-- A line that is put as its word and its numbers: the room for them, and the line once they are put.
+module _ (word : String) (n : ℕ) (ns : List ℕ) {it case : Line} (is : it ≡ case) (text : line_text case ≡ line_of word (n ∷ ns)) where
+  numbered : line_text it ≡ line (ascii word ++ ascii " ") (n ∷ ns)
+  numbered = ap line_text is ∙ text ∙ line_text_lem word n ns
+
+  pub line_room : (out : List ℕ) (at : ℕ) → Room out at (line_text it) → Room out at (line (ascii word ++ ascii " ") (n ∷ ns))
+  line_room out at = subst (Room out at) numbered
+
+  pub line_put : {before after : List ℕ} {at next : ℕ} → Put before after at (line (ascii word ++ ascii " ") (n ∷ ns)) next
+      → Put before after at (line_text it) next
+  line_put {before} {after} {at} {next} = subst (λ l. Put before after at l next) (sym numbered)
 
 -- A place further on of one number more has the same byte after it.
 after_suc : (i count : ℕ) → byte_after (suc i) (suc count) ≡ byte_after i count

@@ -3,8 +3,9 @@
 
 ghost use Rattle.std.specs.Prelude.{◌≡◌, ◌+◌, ◌<◌};
 ghost use Rattle.meaning.specs.Lines.{decimal, line_text};
-ghost use Rattle.meaning.specs.Run.{admit_line, offer_line, depart_line, end_line, refused_line, stop_line};
-ghost use Rattle.lines.specs.Put.{Put, Room, field, byte_after, fields, line};
+ghost use Rattle.lines.specs.Put.{Put, Room, field, byte_after, fields, line as numbered};
+
+use meaning::Line;
 
 // The bytes of s, from `at` on.
 fn put_bytes(out: &mut [u8], at: usize, s: &[u8]) -> usize
@@ -67,64 +68,37 @@ fn put_fields(out: &mut [u8], at: usize, numbers: &[u32]) -> usize
 
 // A line: a fixed word with its space, and its numbers.
 fn put_line(out: &mut [u8], at: usize, word: &[u8], numbers: &[u32]) -> usize
-    requires { Room out.old at (line word.now numbers.now) }
-    ensures { Put out.old out.new at (line word.now numbers.now) result }
+    requires { Room out.old at (numbered word.now numbers.now) }
+    ensures { Put out.old out.new at (numbered word.now numbers.now) result }
 {
     let first = put_bytes(out, at, word);
     put_fields(out, first, numbers)
 }
 
-// `ADMIT` place, answer, t.
-pub fn put_admit(out: &mut [u8], at: usize, place: u32, answer: u32, t: u32) -> usize
-    requires { Room out.old at (line_text (admit_line place answer t)) }
-    ensures { Put out.old out.new at (line_text (admit_line place answer t)) result }
+// A line of output: its fixed word and its numbers.
+pub fn put(out: &mut [u8], at: usize, line: Line) -> usize
+    requires { Room out.old at (line_text line) }
+    ensures { Put out.old out.new at (line_text line) result }
 {
-    put_line(out, at, b"ADMIT ", &[place, answer, t])
-}
-
-// `OFFER` arrival place, answer, serial or 0.
-pub fn put_offer(out: &mut [u8], at: usize, place: u32, answer: u32, serial: u32) -> usize
-    requires { Room out.old at (line_text (offer_line place answer serial)) }
-    ensures { Put out.old out.new at (line_text (offer_line place answer serial)) result }
-{
-    put_line(out, at, b"OFFER ", &[place, answer, serial])
-}
-
-// `DEPART` serial, connection's place, arrival, departure.
-pub fn put_depart(
-    out: &mut [u8],
-    at: usize,
-    serial: u32,
-    place: u32,
-    arrival: u32,
-    departure: u32,
-) -> usize
-    requires { Room out.old at (line_text (depart_line serial place arrival departure)) }
-    ensures { Put out.old out.new at (line_text (depart_line serial place arrival departure)) result }
-{
-    put_line(out, at, b"DEPART ", &[serial, place, arrival, departure])
-}
-
-// `END` counter, accepted, departed.
-pub fn put_end(out: &mut [u8], at: usize, counter: u32, accepted: u32, departed: u32) -> usize
-    requires { Room out.old at (line_text (end_line counter accepted departed)) }
-    ensures { Put out.old out.new at (line_text (end_line counter accepted departed)) result }
-{
-    put_line(out, at, b"END ", &[counter, accepted, departed])
-}
-
-// `REFUSED` and the number.
-pub fn put_refused(out: &mut [u8], at: usize, answer: u32) -> usize
-    requires { Room out.old at (line_text (refused_line answer)) }
-    ensures { Put out.old out.new at (line_text (refused_line answer)) result }
-{
-    put_line(out, at, b"REFUSED ", &[answer])
-}
-
-// `STOP` and the number.
-pub fn put_stop(out: &mut [u8], at: usize, answer: u32) -> usize
-    requires { Room out.old at (line_text (stop_line answer)) }
-    ensures { Put out.old out.new at (line_text (stop_line answer)) result }
-{
-    put_line(out, at, b"STOP ", &[answer])
+    match line {
+        Line::Admit { place, answer, t } => put_line(out, at, b"ADMIT ", &[place, answer, t]),
+        Line::Offer {
+            place,
+            answer,
+            serial,
+        } => put_line(out, at, b"OFFER ", &[place, answer, serial]),
+        Line::Depart {
+            serial,
+            place,
+            arrival,
+            departure,
+        } => put_line(out, at, b"DEPART ", &[serial, place, arrival, departure]),
+        Line::End {
+            counter,
+            accepted,
+            departed,
+        } => put_line(out, at, b"END ", &[counter, accepted, departed]),
+        Line::Refused(answer) => put_line(out, at, b"REFUSED ", &[answer]),
+        Line::Stop(answer) => put_line(out, at, b"STOP ", &[answer]),
+    }
 }

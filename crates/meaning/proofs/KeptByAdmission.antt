@@ -20,11 +20,11 @@ use Rattle.meaning.specs.declared.Standing.{Standing}
 use Rattle.meaning.specs.Box.{Box, connections, connection, no_connection, waiting, on_link, packets, rank_in, in_their_queues}
 use Rattle.meaning.specs.Box.{serials_rise, packet_kept, link_kept, allowances_kept, sound}
 use Rattle.meaning.specs.declared.Refusal.{Refusal}
-use Rattle.meaning.specs.declared.Admitted.{Admitted}
 use Rattle.meaning.specs.Calls.{new_box, with_newcomer, search_answer, admission_answer, with_standing, after_admission}
 use Rattle.meaning.proofs.Facts.{SoundFacts, PacketFacts, sound_facts, sound_test, packet_facts, packet_test}
 use Rattle.meaning.proofs.Allowances.{full_kept}
 use Rattle.meaning.proofs.QueueLaws.{tagged, tagged_empty, tagged_weaken, empty_flatten}
+use Rattle.std.proofs.Common.{Err}
 
 -- A packet lies in the queue of this tag.
 abbrev pub in_place : Box → ℕ → Packet → Bool
@@ -167,9 +167,9 @@ admission_keeps_sound box c e =
         → (rate_holds_lem : Bool) (found : Search)
         → sound
         (after_admission box c
-        (cond (not allowed) (Admitted.Refused Refusal.ConnectionOffRange)
-        (cond no_room (Admitted.Refused Refusal.TableFull)
-        (cond (not rate_holds_lem) (Admitted.Refused Refusal.RateExceeded) (search_answer (suc (length box.standing)) found)))))
+        (cond (not allowed) (Err Refusal.ConnectionOffRange)
+        (cond no_room (Err Refusal.TableFull)
+        (cond (not rate_holds_lem) (Err Refusal.RateExceeded) (search_answer (suc (length box.standing)) found)))))
         ≡ true
     go false a r b h s = e
     go true a true b h s = e

@@ -20,13 +20,13 @@ use Rattle.meaning.specs.declared.Standing.{Standing}
 use Rattle.meaning.specs.Box.{Box, connections, connection, no_connection, stands, waiting, on_link, packets, rank_in, in_their_queues}
 use Rattle.meaning.specs.Box.{serials_rise, packet_kept, allowances_kept, sound}
 use Rattle.meaning.specs.declared.Refusal.{Refusal}
-use Rattle.meaning.specs.declared.Offered.{Offered}
 use Rattle.meaning.specs.Calls.{allowance, charged_at, joined, offer_answer, after_offer}
 use Rattle.meaning.proofs.Facts.{SoundFacts, SettingsFacts, ConnectionFacts, PacketFacts, sound_facts, sound_test, settings_facts}
 use Rattle.meaning.proofs.Facts.{connection_facts, packet_facts, packet_test}
 use Rattle.meaning.proofs.Allowances.{charged_kept}
 use Rattle.meaning.proofs.QueueLaws.{joined_member, joined_length, joined_count, tagged, tagged_join, tagged_weaken}
 use Rattle.meaning.proofs.KeptByAdmission.{in_place, in_their_queues_tagged, rank_same}
+use Rattle.std.proofs.Common.{Ok, Err}
 
 -- A factor of a rising list is at most the last one.
 rising_above_lem : (low : ℕ) (ns : List ℕ) (i : ℕ) → i < length ns → rising_above low ns ≡ true → low < get_or ns i 0
@@ -165,7 +165,7 @@ module _ (box : Box) (n units : ℕ) (facts : SoundFacts box) (standing : stands
 
     -- The box after the packet is accepted.
     abbrev after : Box
-    after = after_offer box n units (Offered.Accepted (suc box.accepted))
+    after = after_offer box n units (Ok (suc box.accepted))
 
     -- The same connections stand after the offer.
     connections_stay : connections after ≡ connections box
@@ -316,10 +316,10 @@ offer_keeps_sound box n units e =
         → leb most_waiting (length (waiting box)) ≡ no_room
         → sound
         (after_offer box n units
-        (cond (not known) (Offered.Refused Refusal.NoConnection)
-        (cond (not permitted) (Offered.Refused Refusal.WrongLength)
-        (cond (not fit) (Offered.Refused Refusal.NotFitting)
-        (cond no_room (Offered.Refused Refusal.StoreFull) (Offered.Accepted (suc box.accepted)))))))
+        (cond (not known) (Err Refusal.NoConnection)
+        (cond (not permitted) (Err Refusal.WrongLength)
+        (cond (not fit) (Err Refusal.NotFitting)
+        (cond no_room (Err Refusal.StoreFull) (Ok (suc box.accepted)))))))
         ≡ true
     go false a p b f c r d = e
     go true a false b f c r d = e

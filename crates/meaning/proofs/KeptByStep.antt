@@ -17,7 +17,7 @@ use Rattle.meaning.specs.Envelope.{allowance_kept}
 use Rattle.meaning.specs.Queues.{turned, lowest_head, without_lowest_head, tag_zero_waits}
 use Rattle.meaning.specs.declared.Packet.{Packet}
 use Rattle.meaning.specs.declared.Standing.{Standing}
-use Rattle.meaning.specs.Box.{Box, Link, free, carries, connections, connection, waiting, on_link, packets, rank_in}
+use Rattle.meaning.specs.Box.{Box, connections, connection, waiting, on_link, packets, rank_in}
 use Rattle.meaning.specs.Box.{serials_rise, packet_kept, link_kept, allowances_kept, sound}
 use Rattle.meaning.specs.declared.Refusal.{Refusal}
 use Rattle.meaning.specs.declared.Stepped.{Stepped}
@@ -29,6 +29,8 @@ use Rattle.meaning.proofs.QueueLaws.{lowest_member, without_member, without_leng
 use Rattle.meaning.proofs.QueueLaws.{turned_length, turned_count, tagged, tagged_without, tagged_weaken, tagged_last}
 use Rattle.meaning.proofs.KeptByAdmission.{in_place, in_their_queues_tagged, rank_same}
 use Rattle.meaning.proofs.TagsAndRanks.{turn_test}
+use Rattle.std.proofs.Common.{Ok, Err}
+use Rattle.meaning.specs.declared.Link.{Link}
 
 -- Rising serials stay so when the head is taken.
 rising_weaker : (low lower : ℕ) (ns : List ℕ) → lower ≤ low → rising_above low ns ≡ true → rising_above lower ns ≡ true
@@ -62,7 +64,7 @@ pub record Taken (box : Box) (link : Link) (queues : List (List Packet)) : Type 
   pub fewer : length (flatten queues) ≤ length (waiting box)
   pub same_number : length (flatten queues) + length (on_link link) ≡ length (packets box)
   pub carried : (p : Packet) → Memᴰ p (on_link link) → Memᴰ p (packets box)
-  pub left_within : (p : Packet) (left : ℕ) → link ≡ carries p left → (1 ≤ left) × (left ≤ p.units)
+  pub left_within : (p : Packet) (left : ℕ) → link ≡ Link.Carries p left → (1 ≤ left) × (left ≤ p.units)
 
 module _ (box : Box) (facts : SoundFacts box) where
   -- Every waiting packet of a sound box lies in the queue of its tag.
@@ -70,7 +72,7 @@ module _ (box : Box) (facts : SoundFacts box) where
   placed_now = sym (in_their_queues_tagged box 0 box.queues) ∙ facts.in_their_queues_lem
 
   -- Where the link was not free, it keeps its packet, and the queues stay.
-  busy : (p : Packet) (left : ℕ) → box.link ≡ carries p left → Taken box (carries p left) box.queues
+  busy : (p : Packet) (left : ℕ) → box.link ≡ Link.Carries p left → Taken box (Link.Carries p left) box.queues
   unfolding waiting packets on_link serials_rise link_kept
   busy p left e =
       let n : length (on_link box.link) ≡ 1 = ap (λ l. length (on_link l)) e in
@@ -87,7 +89,7 @@ module _ (box : Box) (facts : SoundFacts box) where
       }
 
   -- Where the link was free and nothing waits, it stays free.
-  idle : box.link ≡ free → lowest_head box.queues ≡ none → Taken box free (without_lowest_head box.queues)
+  idle : box.link ≡ Link.Free → lowest_head box.queues ≡ none → Taken box Link.Free (without_lowest_head box.queues)
   unfolding waiting packets on_link serials_rise
   idle e h =
       let n : length (on_link box.link) ≡ 0 = ap (λ l. length (on_link l)) e in
@@ -105,8 +107,8 @@ module _ (box : Box) (facts : SoundFacts box) where
       }
 
   -- Where the link was free and a packet waits, it takes the lowest head.
-  takes : (p : Packet) → box.link ≡ free → lowest_head box.queues ≡ some p
-      → Taken box (carries p p.units) (without_lowest_head box.queues)
+  takes : (p : Packet) → box.link ≡ Link.Free → lowest_head box.queues ≡ some p
+      → Taken box (Link.Carries p p.units) (without_lowest_head box.queues)
   unfolding waiting packets on_link serials_rise
   takes p e h =
       let n : length (on_link box.link) ≡ 0 = ap (λ l. length (on_link l)) e in
@@ -132,14 +134,14 @@ module _ (box : Box) (facts : SoundFacts box) where
   unfolding link_taken queues_taken loaded
   taken = by_link box.link refl
     where
-      by_head : (o : Option Packet) → lowest_head box.queues ≡ o → box.link ≡ free
+      by_head : (o : Option Packet) → lowest_head box.queues ≡ o → box.link ≡ Link.Free
           → Taken box (loaded o) (without_lowest_head box.queues)
       by_head none h e = idle e h
       by_head (some p) h e = takes p e h
 
       by_link : (l : Link) → box.link ≡ l → Taken box (link_taken l box.queues) (queues_taken l box.queues)
-      by_link free e = by_head (lowest_head box.queues) refl e
-      by_link (carries p left) e = busy p left e
+      by_link Link.Free e = by_head (lowest_head box.queues) refl e
+      by_link (Link.Carries p left) e = busy p left e
 
 -- What holds of the link once a unit is sent.
 record Sent (before link : Link) : Type 0 where
@@ -148,12 +150,12 @@ record Sent (before link : Link) : Type 0 where
   at_most_one : length (on_link before) ≤ suc (length (on_link link))
 
 -- The link keeps its range once a unit is sent, and at most its one packet is gone.
-sent : (link : Link) → ((p : Packet) (left : ℕ) → link ≡ carries p left → (1 ≤ left) × (left ≤ p.units)) → Sent link (link_sent link)
+sent : (link : Link) → ((p : Packet) (left : ℕ) → link ≡ Link.Carries p left → (1 ≤ left) × (left ≤ p.units)) → Sent link (link_sent link)
 unfolding link_sent link_kept on_link
-sent free h = record { kept = refl; still = λ p m. m; at_most_one = omega arith }
-sent (carries p left) h = go (leb left 1) refl (h p left refl)
+sent Link.Free h = record { kept = refl; still = λ p m. m; at_most_one = omega arith }
+sent (Link.Carries p left) h = go (leb left 1) refl (h p left refl)
   where
-    go : (last : Bool) → leb left 1 ≡ last → (1 ≤ left) × (left ≤ p.units) → Sent (carries p left) (cond last free (carries p (left - 1)))
+    go : (last : Bool) → leb left 1 ≡ last → (1 ≤ left) × (left ≤ p.units) → Sent (Link.Carries p left) (cond last Link.Free (Link.Carries p (left - 1)))
     go true e k = record { kept = refl; still = λ x m. absurd (Memᴰ.not-nil m); at_most_one = omega arith }
     go false e k =
         let l = leb-false left 1 e in
@@ -325,14 +327,14 @@ module _ (box : Box) (facts : SoundFacts box) (before_end : box.counter < last_s
         })
 
 -- An answer that is no refusal moves the box.
-pub sent_moves : (box : Box) (departure : ℕ) (link : Link) → after_step box (sent_answer departure link) ≡ moved box
+pub sent_moves : (box : Box) (departure : ℕ) (link : Link) → after_step box (Ok (sent_answer departure link)) ≡ moved box
 unfolding after_step sent_answer
-sent_moves box departure free = refl
-sent_moves box departure (carries p left) = go (leb left 1)
+sent_moves box departure Link.Free = refl
+sent_moves box departure (Link.Carries p left) = go (leb left 1)
   where
     go : (last : Bool)
-        → after_step box (cond last (Stepped.Departed p.serial p.connection p.arrival departure)
-        (Stepped.Sending p.serial (left - 1))) ≡ moved box
+        → after_step box (Ok (cond last (Stepped.Departed p.serial p.connection p.arrival departure)
+        (Stepped.Sending p.serial (left - 1)))) ≡ moved box
     go true = refl
     go false = refl
 
@@ -347,8 +349,8 @@ step_keeps_sound box e =
         → (blocked : Bool) → (turn_due box && tag_zero_waits (queues_taken box.link box.queues)) ≡ blocked
         → sound
         (after_step box
-        (cond at_end (Stepped.Refused Refusal.CounterEnded)
-        (cond blocked (Stepped.Refused Refusal.TurnBlocked) (sent_answer (suc box.counter) (link_taken box.link box.queues)))))
+        (cond at_end (Err Refusal.CounterEnded)
+        (cond blocked (Err Refusal.TurnBlocked) (Ok (sent_answer (suc box.counter) (link_taken box.link box.queues))))))
         ≡ true
     go true a b c = e
     go false a true c = e

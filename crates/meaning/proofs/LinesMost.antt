@@ -15,7 +15,7 @@ use Rattle.meaning.specs.Box.{Box, packets, sound}
 use Rattle.meaning.specs.Answers.{refusal_number, refusal, stepped}
 use Rattle.meaning.specs.Step.{link_taken, sent_answer, step_answer, moved, after_step}
 use Rattle.meaning.specs.declared.Arrival.{Arrival}
-use Rattle.meaning.specs.Run.{Line, going, ended, stopped, end_line, stop_line, offer_all, departures, finished, phase, slots}
+use Rattle.meaning.specs.Run.{going, ended, stopped, offer_all, departures, finished, phase, slots}
 use Rattle.meaning.specs.Rest.{from}
 use Rattle.meaning.proofs.ArrivalSums.{next_slot}
 use Rattle.meaning.proofs.Facts.{sound_facts}
@@ -24,6 +24,9 @@ use Rattle.meaning.proofs.Readings.{refusal_range, refused_phase}
 use Rattle.meaning.proofs.TextMost.{Printed, PrintedLine, AllPrinted}
 use Rattle.meaning.proofs.OfferLines.{accepted_printed, offers}
 use Rattle.meaning.proofs.StepLines.{Outcome, moves, refuses, moved_count, sent_printed, outcome, sent_number, moved_counter}
+use Rattle.std.proofs.Common.{Ok, Result}
+use Rattle.meaning.specs.declared.Refusal.{Refusal}
+use Rattle.meaning.specs.declared.Line.{Line}
 
 -- Each arrival counts for one.
 abbrev pub one : Placed Arrival → ℕ
@@ -64,10 +67,10 @@ stopped_few : (n answer : ℕ) (l : List (Placed Arrival)) (numbers : List ℕ) 
     → Few (slots n (stopped answer) l numbers box departed) 1
 unfolding slots
 stopped_few zero answer l numbers box departed p = record { count = omega arith; printed = λ k m. absurd (Memᴰ.not-nil m) }
-stopped_few (suc n) answer l numbers box departed p = few_one (stop_line answer) p
+stopped_few (suc n) answer l numbers box departed p = few_one (Line.Stop answer) p
 
 -- The lines after the offers of a slot.
-after_offers_lem : (n : ℕ) (l : List (Placed Arrival)) (numbers : List ℕ) (box : Box) (departed most : ℕ) (answer : Stepped)
+after_offers_lem : (n : ℕ) (l : List (Placed Arrival)) (numbers : List ℕ) (box : Box) (departed most : ℕ) (answer : Result Stepped Refusal)
     → Outcome box answer → sound box ≡ true → sound (after_step box answer) ≡ true → length numbers ≤ 32
     → (sound (moved box) ≡ true → (d : ℕ) → d + length (packets (moved box)) ≤ departed +
     length (packets box) → Few (slots n (phase l (moved box) 0) l numbers (moved box) d) (most + length (packets (moved box)) + 1))
@@ -77,9 +80,9 @@ after_offers_lem : (n : ℕ) (l : List (Placed Arrival)) (numbers : List ℕ) (b
     (most + length (packets box) + 1)
 unfolding phase after_step stepped refusal departures
 after_offers_lem n l numbers box departed most answer moves e k h rest =
-    moving (sent_answer (suc box.counter) (link_taken box.link box.queues)) refl k
+    moving (Ok (sent_answer (suc box.counter) (link_taken box.link box.queues))) refl k
   where
-    moving : (a : Stepped) → a ≡ sent_answer (suc box.counter) (link_taken box.link box.queues) → sound (after_step box a) ≡ true
+    moving : (a : Result Stepped Refusal) → a ≡ Ok (sent_answer (suc box.counter) (link_taken box.link box.queues)) → sound (after_step box a) ≡ true
         → Few (departures numbers a ++
         slots n (phase l (after_step box a) (stepped a).number) l numbers (after_step box a) (departed + length (departures numbers a)))
         (most + length (packets box) + 1)
@@ -128,7 +131,7 @@ slots_few (suc n) l numbers box departed t = by_phase (finished l box) (slots_fe
         let a = accepted_printed box t.still_sound in
         let c = (sound_facts box t.still_sound).counter_most in
         let d = t.together in
-        few_more (few_one (end_line box.counter box.accepted departed) (omega arith, omega arith, omega arith)) (omega arith)
+        few_more (few_one (Line.End box.counter box.accepted departed) (omega arith, omega arith, omega arith)) (omega arith)
     by_phase false rest =
         let now = keep (λ (a : Placed Arrival). eqb a.entry.slot box.counter) l in
         let o = offers numbers now box t.still_sound (λ a m. t.places a (kept_member (λ a. eqb a.entry.slot box.counter) l m)) in

@@ -11,19 +11,21 @@ use lib.Dec.{leb}
 use Rattle.laws.specs.Tests.{within}
 use Rattle.laws.specs.Lists.{Placed}
 use Rattle.meaning.specs.declared.Refusal.{Refusal}
-use Rattle.meaning.specs.declared.Offered.{Offered}
 use Rattle.meaning.specs.Numbers.{factor}
 use Rattle.meaning.specs.Envelope.{conforms}
 use Rattle.meaning.specs.Queues.{join_tail}
 use Rattle.meaning.specs.declared.Packet.{Packet}
-use Rattle.meaning.specs.Box.{Box, Link, free, carries, connection, stands, waiting, on_link, packets, sound}
+use Rattle.meaning.specs.Box.{Box, connection, stands, waiting, on_link, packets, sound}
 use Rattle.meaning.specs.Answers.{refusal_number, refusal, offered}
 use Rattle.meaning.specs.Calls.{allowance, offer_answer, after_offer, joined}
 use Rattle.meaning.specs.declared.Arrival.{Arrival}
-use Rattle.meaning.specs.Run.{Line, offer_line, number_of, offer_all}
+use Rattle.meaning.specs.Run.{number_of, offer_all}
 use Rattle.meaning.proofs.Facts.{sound_facts}
 use Rattle.meaning.proofs.KeptByOffer.{offer_keeps_sound}
 use Rattle.meaning.proofs.TextMost.{Printed, PrintedLine, AllPrinted}
+use Rattle.std.proofs.Common.{Result, Ok, Err}
+use Rattle.meaning.specs.declared.Link.{Link}
+use Rattle.meaning.specs.declared.Line.{Line}
 
 -- Joining a tail adds at most one packet.
 joined_most : (k : ℕ) (p : Packet) (qs : List (List Packet)) → length (flatten (join_tail k p qs)) ≤ suc (length (flatten qs))
@@ -33,19 +35,19 @@ joined_most zero p (q ∷ qs) = simp length-append (omega arith)
 joined_most (suc k) p (q ∷ qs) = let i = joined_most k p qs in simp length-append (omega arith)
 
 -- An offer adds at most one packet to the box.
-offer_count : (box : Box) (n units : ℕ) (answer : Offered) → length (packets (after_offer box n units answer)) ≤ suc (length (packets box))
+offer_count : (box : Box) (n units : ℕ) (answer : Result ℕ Refusal) → length (packets (after_offer box n units answer)) ≤ suc (length (packets box))
 unfolding after_offer packets waiting joined
-offer_count box n units (Offered.Accepted serial) =
+offer_count box n units (Ok serial) =
     let p : Packet = record { serial = serial; connection = n; units = units; arrival = box.counter } in
     let j = joined_most (factor box.settings (connection box n).class) p box.queues in
     simp length-append (omega arith)
-offer_count box n units (Offered.Refused why) = omega arith
+offer_count box n units (Err why) = omega arith
 
 -- An offer does not move the counter.
-pub offer_counter : (box : Box) (n units : ℕ) (answer : Offered) → (after_offer box n units answer).counter ≡ box.counter
+pub offer_counter : (box : Box) (n units : ℕ) (answer : Result ℕ Refusal) → (after_offer box n units answer).counter ≡ box.counter
 unfolding after_offer
-offer_counter box n units (Offered.Accepted serial) = refl
-offer_counter box n units (Offered.Refused why) = refl
+offer_counter box n units (Ok serial) = refl
+offer_counter box n units (Err why) = refl
 
 -- The count of accepted packets of a sound box, and two more, is below 5,000,000,000.
 pub accepted_printed : (box : Box) → sound box ≡ true → suc (suc box.accepted) < 5000000000
@@ -60,12 +62,12 @@ accepted_printed box e =
     omega arith
   where
     on_link_lem : (l : Link) → length (on_link l) ≤ 1
-    on_link_lem free = omega arith
-    on_link_lem (carries p left) = omega arith
+    on_link_lem Link.Free = omega arith
+    on_link_lem (Link.Carries p left) = omega arith
 
 -- The numbers of the line of an offer are printed numbers.
 offer_printed : (box : Box) (n units place : ℕ) → sound box ≡ true → Printed place
-    → PrintedLine (offer_line place (offered (offer_answer box n units)).number (get_or (offered (offer_answer box n units)).fields 0 0))
+    → PrintedLine (Line.Offer place (offered (offer_answer box n units)).number (get_or (offered (offer_answer box n units)).fields 0 0))
 unfolding offer_answer offered refusal refusal_number
 offer_printed box n units place e p =
     let a = accepted_printed box e in
@@ -75,17 +77,17 @@ offer_printed box n units place e p =
   where
     go : (a b c d : Bool) → suc (suc box.accepted) < 5000000000
         → PrintedLine
-        (offer_line place
-        (offered (cond (not a) (Offered.Refused Refusal.NoConnection)
-        (cond (not b) (Offered.Refused Refusal.WrongLength)
-        (cond (not c) (Offered.Refused Refusal.NotFitting)
-        (cond d (Offered.Refused Refusal.StoreFull) (Offered.Accepted (suc box.accepted))))))
+        (Line.Offer place
+        (offered (cond (not a) (Err Refusal.NoConnection)
+        (cond (not b) (Err Refusal.WrongLength)
+        (cond (not c) (Err Refusal.NotFitting)
+        (cond d (Err Refusal.StoreFull) (Ok (suc box.accepted))))))
         ).number
         (get_or
-        (offered (cond (not a) (Offered.Refused Refusal.NoConnection)
-        (cond (not b) (Offered.Refused Refusal.WrongLength)
-        (cond (not c) (Offered.Refused Refusal.NotFitting)
-        (cond d (Offered.Refused Refusal.StoreFull) (Offered.Accepted (suc box.accepted))))))
+        (offered (cond (not a) (Err Refusal.NoConnection)
+        (cond (not b) (Err Refusal.WrongLength)
+        (cond (not c) (Err Refusal.NotFitting)
+        (cond d (Err Refusal.StoreFull) (Ok (suc box.accepted))))))
         ).fields
         0 0))
     go false b c d h = (p, omega arith, omega arith)
@@ -132,7 +134,7 @@ offers numbers (a ∷ l) box e h =
       printed =
           λ k m.
           ⊎_elim
-          (λ (i : k ≡ offer_line a.place (offered answer).number (get_or (offered answer).fields 0 0)). subst PrintedLine (sym i) own)
+          (λ (i : k ≡ Line.Offer a.place (offered answer).number (get_or (offered answer).fields 0 0)). subst PrintedLine (sym i) own)
           (λ i. rest.printed k i)
           (Memᴰ.cases_cons m);
     }

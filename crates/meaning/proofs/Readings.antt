@@ -14,15 +14,11 @@ use Rattle.meaning.specs.Box.{Box}
 use Rattle.meaning.specs.Run.{stopped, phase}
 use Rattle.meaning.specs.Envelope.{count_in, fits}
 use Rattle.meaning.specs.declared.Refusal.{Refusal}
-use Rattle.meaning.specs.declared.Opened.{Opened}
-use Rattle.meaning.specs.declared.Admitted.{Admitted}
-use Rattle.meaning.specs.declared.Offered.{Offered}
 use Rattle.meaning.specs.declared.Stepped.{Stepped}
-use Rattle.meaning.specs.declared.PlanRead.{PlanRead}
-use Rattle.meaning.specs.declared.PlanWritten.{PlanWritten}
-use Rattle.meaning.specs.declared.Printed.{Printed}
 use Rattle.meaning.specs.Answers.{Answer, refusal_number, failing_t, refusal, opened, admitted, offered, stepped, plan_read}
 use Rattle.meaning.specs.Answers.{plan_written, printed}
+use Rattle.std.proofs.Common.{Result, Ok, Err}
+use Rattle.meaning.specs.declared.Header.{Header}
 
 -- "An offer at slot now fits exactly when, with it counted, no stretch that ends at now and starts at an earlier or the same slot has
 -- more than it may."
@@ -90,45 +86,45 @@ abbrev pub FieldsZero : Answer → Type 0
 FieldsZero a = a.number ≢ 0 → a.number ≢ 6 → every (eqb 0) a.fields ≡ true
 
 -- A refused opening has its other result fields 0.
-pub opened_fields : (r : Opened) → FieldsZero (opened r)
+pub opened_fields : (r : Result Unit Refusal) → FieldsZero (opened r)
 unfolding opened refusal every
-opened_fields Opened.Done f g = refl
-opened_fields (Opened.Refused why) f g = refl
+opened_fields (Ok tt) f g = refl
+opened_fields (Err why) f g = refl
 
 -- A refused admission has its other result fields 0, unless its answer is 6.
-pub admitted_fields : (r : Admitted) → FieldsZero (admitted r)
+pub admitted_fields : (r : Result ℕ Refusal) → FieldsZero (admitted r)
 unfolding admitted every
-admitted_fields (Admitted.Taken n) f g = absurd (f refl)
-admitted_fields (Admitted.Refused why) f g = rw (no_failing_t why g) refl
+admitted_fields (Ok n) f g = absurd (f refl)
+admitted_fields (Err why) f g = rw (no_failing_t why g) refl
 
 -- A refused offer has its other result fields 0.
-pub offered_fields : (r : Offered) → FieldsZero (offered r)
+pub offered_fields : (r : Result ℕ Refusal) → FieldsZero (offered r)
 unfolding offered refusal every
-offered_fields (Offered.Accepted serial) f g = absurd (f refl)
-offered_fields (Offered.Refused why) f g = refl
+offered_fields (Ok serial) f g = absurd (f refl)
+offered_fields (Err why) f g = refl
 
 -- A refused step has its other result fields 0.
-pub stepped_fields : (r : Stepped) → FieldsZero (stepped r)
+pub stepped_fields : (r : Result Stepped Refusal) → FieldsZero (stepped r)
 unfolding stepped refusal every
-stepped_fields Stepped.Idle f g = absurd (f refl)
-stepped_fields (Stepped.Sending serial left) f g = absurd (f refl)
-stepped_fields (Stepped.Departed serial connection arrival departure) f g = absurd (f refl)
-stepped_fields (Stepped.Refused why) f g = refl
+stepped_fields (Ok Stepped.Idle) f g = absurd (f refl)
+stepped_fields (Ok (Stepped.Sending serial left)) f g = absurd (f refl)
+stepped_fields (Ok (Stepped.Departed serial connection arrival departure)) f g = absurd (f refl)
+stepped_fields (Err why) f g = refl
 
 -- A refused reading has its other result fields 0.
-pub read_fields : (r : PlanRead) → FieldsZero (plan_read r)
+pub read_fields : (r : Result Header Refusal) → FieldsZero (plan_read r)
 unfolding plan_read refusal every
-read_fields (PlanRead.Good h) f g = absurd (f refl)
-read_fields (PlanRead.Refused why) f g = refl
+read_fields (Ok h) f g = absurd (f refl)
+read_fields (Err why) f g = refl
 
 -- A refused writing has its other result fields 0.
-pub written_fields : (r : PlanWritten) → FieldsZero (plan_written r)
+pub written_fields : (r : Result ℕ Refusal) → FieldsZero (plan_written r)
 unfolding plan_written refusal every
-written_fields (PlanWritten.Written n) f g = absurd (f refl)
-written_fields (PlanWritten.Refused why) f g = refl
+written_fields (Ok n) f g = absurd (f refl)
+written_fields (Err why) f g = refl
 
 -- Every refusal of printing leaves its field 0.
-pub printed_fields : (r : Printed) → FieldsZero (printed r)
+pub printed_fields : (r : Result ℕ Refusal) → FieldsZero (printed r)
 unfolding printed refusal every
-printed_fields (Printed.Written n) f g = absurd (f refl)
-printed_fields (Printed.Refused why) f g = refl
+printed_fields (Ok n) f g = absurd (f refl)
+printed_fields (Err why) f g = refl

@@ -13,15 +13,18 @@ use Rattle.meaning.specs.Calls.{new_box}
 use Rattle.meaning.specs.Step.{step_answer, moved, after_step}
 use Rattle.meaning.specs.declared.Arrival.{Arrival}
 use Rattle.meaning.specs.Plan.{Plan}
-use Rattle.meaning.specs.Run.{Line, stopped, end_line, stop_line, admit_all, offer_all, departures, finished}
+use Rattle.meaning.specs.Run.{stopped, admit_all, offer_all, departures, finished}
 use Rattle.meaning.specs.Run.{phase, slots, slots_enough, open_run}
 use Rattle.meaning.specs.Rest.{potential, due_now, rest_of, after_answer}
 use Rattle.meaning.proofs.Readings.{refused_phase}
 use Rattle.meaning.proofs.SlotsEnough.{falls, enough, start_potential, new_weight, admissions_weight}
+use Rattle.std.proofs.Common.{Result, Ok, Err}
+use Rattle.meaning.specs.declared.Refusal.{Refusal}
+use Rattle.meaning.specs.declared.Line.{Line}
 
 -- Of a run that is finished only the END line is left.
 pub rest_ended : (l : List (Placed Arrival)) (numbers : List ℕ) (box : Box) (departed : ℕ) → finished l box ≡ true
-    → rest_of l numbers box departed ≡ end_line box.counter box.accepted departed ∷ []
+    → rest_of l numbers box departed ≡ Line.End box.counter box.accepted departed ∷ []
 unfolding rest_of slots phase
 rest_ended l numbers box departed e = rw e refl
 
@@ -36,27 +39,27 @@ rest_from n d l numbers box h =
 
 -- A run that has stopped prints the STOP line and nothing more.
 stop_line_lem : (n answer : ℕ) (l : List (Placed Arrival)) (numbers : List ℕ) (box : Box) (d : ℕ) → 1 ≤ n
-    → slots n (stopped answer) l numbers box d ≡ stop_line answer ∷ []
+    → slots n (stopped answer) l numbers box d ≡ Line.Stop answer ∷ []
 unfolding slots
 stop_line_lem zero answer l numbers box d h = absurd (let z = h in omega arith)
 stop_line_lem (suc n) answer l numbers box d h = refl
 
 -- The lines after the offers of a slot, for whatever the step answers.
-answered : (n : ℕ) (l : List (Placed Arrival)) (numbers : List ℕ) (box : Box) (departed : ℕ) (answer : Stepped)
+answered : (n : ℕ) (l : List (Placed Arrival)) (numbers : List ℕ) (box : Box) (departed : ℕ) (answer : Result Stepped Refusal)
     → suc (potential l (moved box)) ≤ n
     → slots n (phase l (after_step box answer) (stepped answer).number) l numbers (after_step box answer)
     (departed + length (departures numbers answer))
     ≡ after_answer l numbers box departed answer
 unfolding after_step stepped refusal departures after_answer phase
-answered n l numbers box departed Stepped.Idle h =
+answered n l numbers box departed (Ok Stepped.Idle) h =
     let z : departed + 0 ≡ departed = omega arith in
     ap (λ d. slots n (phase l (moved box) 0) l numbers (moved box) d) z ∙ rest_from n departed l numbers (moved box) h
-answered n l numbers box departed (Stepped.Sending serial left) h =
+answered n l numbers box departed (Ok (Stepped.Sending serial left)) h =
     let z : departed + 0 ≡ departed = omega arith in
     ap (λ d. slots n (phase l (moved box) 0) l numbers (moved box) d) z ∙ rest_from n departed l numbers (moved box) h
-answered n l numbers box departed (Stepped.Departed serial connection arrival departure) h =
+answered n l numbers box departed (Ok (Stepped.Departed serial connection arrival departure)) h =
     rest_from n (departed + 1) l numbers (moved box) h
-answered n l numbers box departed (Stepped.Refused why) h =
+answered n l numbers box departed (Err why) h =
     rw (refused_phase l box why) (stop_line_lem n (refusal_number why) l numbers box (departed + 0) (omega arith))
 
 -- One slot of a run that goes on: the lines of its offers, that of a departure, and the rest.

@@ -14,9 +14,6 @@ use Rattle.laws.specs.Search.{Search, fails_at, holds, first_failing}
 use Rattle.laws.specs.Finding.{first_failing_fails}
 use Rattle.meaning.specs.declared.Header.{Header}
 use Rattle.meaning.specs.declared.Refusal.{Refusal}
-use Rattle.meaning.specs.declared.Opened.{Opened}
-use Rattle.meaning.specs.declared.Admitted.{Admitted}
-use Rattle.meaning.specs.declared.PlanRead.{PlanRead}
 use Rattle.meaning.specs.declared.Connection.{Connection}
 use Rattle.meaning.specs.Numbers.{Settings, largest_factor, largest_bound, settings_allowed, connection_allowed}
 use Rattle.meaning.specs.Admission.{condition_at, rate_holds, finite_search}
@@ -27,7 +24,7 @@ use Rattle.meaning.specs.Calls.{new_box, opening_answer, with_newcomer, search_a
 use Rattle.meaning.specs.declared.Arrival.{Arrival}
 use Rattle.meaning.specs.Plan.{Plan, words_of, header_of, contents_of, table, counts_allowed, layout_wrong, slots_wrong, size_wrong}
 use Rattle.meaning.specs.Plan.{sum_wrong, reading_answer, connection_at, arrival_at}
-use Rattle.meaning.specs.Run.{refused_line, line_of_admission, admit_all, slots_enough, open_run, plan_run}
+use Rattle.meaning.specs.Run.{line_of_admission, admit_all, slots_enough, open_run, plan_run}
 use Rattle.meaning.specs.Run.{read_run, run}
 use Rattle.meaning.specs.Lines.{run_text, text_most}
 use Rattle.meaning.proofs.Facts.{sound_facts, settings_facts}
@@ -38,6 +35,8 @@ use Rattle.meaning.proofs.QueueLaws.{empty_flatten}
 use Rattle.meaning.proofs.Readings.{refusal_range}
 use Rattle.meaning.proofs.TextMost.{Printed, PrintedLine, text_most_lem}
 use Rattle.meaning.proofs.LinesMost.{Few, few_append, few_more, few_one, one, length_is, slots_few}
+use Rattle.std.proofs.Common.{Result, Ok, Err}
+use Rattle.meaning.specs.declared.Line.{Line}
 
 -- An admission: its line has small numbers, and it moves neither the counter nor a packet.
 admission_printed : (box : Box) (c : Connection) (place : ℕ) → sound box ≡ true → Printed place → length box.standing ≤ 32
@@ -59,9 +58,9 @@ admission_printed box c place e p r =
         → first_failing (condition_at box.settings (with_newcomer box c)) (largest_bound box.settings + box.settings.cycle) ≡ s
         → PrintedLine
         (line_of_admission place
-        (cond (not a) (Admitted.Refused Refusal.ConnectionOffRange)
-        (cond b (Admitted.Refused Refusal.TableFull)
-        (cond (not d) (Admitted.Refused Refusal.RateExceeded) (search_answer (suc (length box.standing)) s)))))
+        (cond (not a) (Err Refusal.ConnectionOffRange)
+        (cond b (Err Refusal.TableFull)
+        (cond (not d) (Err Refusal.RateExceeded) (search_answer (suc (length box.standing)) s)))))
     go false b d s q = (p, omega arith, omega arith)
     go true true d s q = (p, omega arith, omega arith)
     go true false false s q = (p, omega arith, omega arith)
@@ -73,11 +72,11 @@ admission_printed box c place e p r =
     go true false true holds q = (p, omega arith, omega arith)
 
 -- An admission leaves the counter and the packets.
-admission_same : (box : Box) (c : Connection) (answer : Admitted)
+admission_same : (box : Box) (c : Connection) (answer : Result ℕ Refusal)
     → ((after_admission box c answer).counter ≡ box.counter) × (packets (after_admission box c answer) ≡ packets box)
 unfolding after_admission with_standing packets waiting
-admission_same box c (Admitted.Taken n) = (refl, refl)
-admission_same box c (Admitted.Refused why) = (refl, refl)
+admission_same box c (Ok n) = (refl, refl)
+admission_same box c (Err why) = (refl, refl)
 
 -- What all admissions leave behind.
 record Admitting (place : ℕ) (cs : List Connection) (box : Box) : Type 0 where
@@ -197,8 +196,8 @@ unfolding contents_of
 arrival_count ws h = table_length arrival_at 3 ws (h.arrivals.start / 4) h.arrivals.count
 
 -- The line of a refusal is at most 8,225 lines, with small numbers.
-refused_few : (why : Refusal) → Few (refused_line (refusal_number why) ∷ []) 8225
-refused_few why = let r = refusal_range why in few_more (few_one (refused_line (refusal_number why)) (omega arith)) (omega arith)
+refused_few : (why : Refusal) → Few (Line.Refused (refusal_number why) ∷ []) 8225
+refused_few why = let r = refusal_range why in few_more (few_one (Line.Refused (refusal_number why)) (omega arith)) (omega arith)
 
 -- The run of a plan, opened or refused, has at most 8,225 lines, with small numbers.
 planned_few : (plan : Plan) → length plan.connections ≤ 32 → length plan.arrivals ≤ 4096
@@ -207,8 +206,8 @@ unfolding plan_run opening_answer
 planned_few plan c a = go (settings_allowed plan.settings) refl
   where
     go : (b : Bool) → settings_allowed plan.settings ≡ b
-        → Few (plan_run plan (cond (not b) (Opened.Refused Refusal.SettingsOffRange)
-        (cond false (Opened.Refused Refusal.TooShort) Opened.Done))) 8225
+        → Few (plan_run plan (cond (not b) (Err Refusal.SettingsOffRange)
+        (cond false (Err Refusal.TooShort) (Ok tt)))) 8225
     go true e = open_few plan e c a
     go false e = refused_few Refusal.SettingsOffRange
 
@@ -219,7 +218,7 @@ read_few bytes = go (size_wrong bytes) (sum_wrong (words_of bytes)) (layout_wron
     (slots_wrong (contents_of (words_of bytes) (header_of (words_of bytes))).arrivals)
   where
     good : layout_wrong (length bytes) (header_of (words_of bytes)) ≡ false
-        → Few (read_run bytes (PlanRead.Good (header_of (words_of bytes)))) 8225
+        → Few (read_run bytes (Ok (header_of (words_of bytes)))) 8225
     good e =
         let k = counts_kept (length bytes) (header_of (words_of bytes)) e in
         planned_few (contents_of (words_of bytes) (header_of (words_of bytes)))
@@ -229,10 +228,10 @@ read_few bytes = go (size_wrong bytes) (sum_wrong (words_of bytes)) (layout_wron
     go : (a b c : Bool) → layout_wrong (length bytes) (header_of (words_of bytes)) ≡ c → (d : Bool)
         → Few
         (read_run bytes
-        (cond a (PlanRead.Refused Refusal.WrongSize)
-        (cond b (PlanRead.Refused Refusal.WrongSum)
-        (cond c (PlanRead.Refused Refusal.WrongLayout)
-        (cond d (PlanRead.Refused Refusal.WrongSlots) (PlanRead.Good (header_of (words_of bytes))))))))
+        (cond a (Err Refusal.WrongSize)
+        (cond b (Err Refusal.WrongSum)
+        (cond c (Err Refusal.WrongLayout)
+        (cond d (Err Refusal.WrongSlots) (Ok (header_of (words_of bytes))))))))
         8225
     go true b c e d = refused_few Refusal.WrongSize
     go false true c e d = refused_few Refusal.WrongSum

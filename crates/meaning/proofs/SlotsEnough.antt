@@ -12,25 +12,27 @@ use borrow.Author.Tests.{leb-false, ltb-false, eqb-false}
 use Rattle.laws.specs.Tests.{every}
 use Rattle.laws.specs.Lists.{Placed, keep, placed_from}
 use Rattle.laws.specs.Sums.{sum_of, largest_of, sum_append, length_sum}
-use Rattle.meaning.specs.declared.Admitted.{Admitted}
-use Rattle.meaning.specs.declared.Offered.{Offered}
 use Rattle.meaning.specs.declared.Stepped.{Stepped}
 use Rattle.meaning.specs.declared.Connection.{Connection}
 use Rattle.meaning.specs.Numbers.{Settings, factor, largest_factor}
 use Rattle.meaning.specs.Queues.{empty_queues, join_tail, turned, lowest_head, without_lowest_head}
 use Rattle.meaning.specs.declared.Packet.{Packet}
-use Rattle.meaning.specs.Box.{Box, Link, free, carries, connection, waiting, on_link, packets}
+use Rattle.meaning.specs.Box.{Box, connection, waiting, on_link, packets}
 use Rattle.meaning.specs.Answers.{refusal_number, refusal, stepped}
 use Rattle.meaning.specs.Calls.{new_box, with_standing, admission_answer, after_admission, joined, offer_answer, after_offer}
 use Rattle.meaning.specs.Step.{loaded, link_taken, queues_taken, link_sent, turn_due, step_answer, queues_stepped, moved, after_step}
 use Rattle.meaning.specs.declared.Arrival.{Arrival}
 use Rattle.meaning.specs.Plan.{Plan}
-use Rattle.meaning.specs.Run.{Line, AfterOffers, going, ended, stopped, admit_all, number_of, offer_all, departures, finished}
+use Rattle.meaning.specs.Run.{AfterOffers, going, ended, stopped, admit_all, number_of, offer_all, departures, finished}
 use Rattle.meaning.specs.Run.{phase, slots, slots_enough}
 use Rattle.meaning.specs.Rest.{size, link_weight, weight, arrival_size, from, potential}
 use Rattle.meaning.proofs.Readings.{refused_phase}
 use Rattle.meaning.proofs.ArrivalSums.{next_slot, from_start}
 use Rattle.meaning.proofs.QueueLaws.{nothing_waits, nothing_taken, flatten_last, empty_flatten}
+use Rattle.std.proofs.Common.{Result, Ok, Err}
+use Rattle.meaning.specs.declared.Refusal.{Refusal}
+use Rattle.meaning.specs.declared.Link.{Link}
+use Rattle.meaning.specs.declared.Line.{Line}
 
 -- Joining a tail adds at most what the packet has to send.
 joined_most : (k : ℕ) (p : Packet) (qs : List (List Packet)) → sum_of size (flatten (join_tail k p qs)) ≤ size p + sum_of size (flatten qs)
@@ -68,10 +70,10 @@ no_size = refl
 -- Sending a unit leaves less to send on the link, if anything was.
 sent_weight : (link : Link) → link_weight (link_sent link) ≤ link_weight link - 1
 unfolding link_weight link_sent
-sent_weight free = omega arith
-sent_weight (carries p left) = go (leb left 1) refl
+sent_weight Link.Free = omega arith
+sent_weight (Link.Carries p left) = go (leb left 1) refl
   where
-    go : (last : Bool) → leb left 1 ≡ last → link_weight (cond last free (carries p (left - 1))) ≤ suc left - 1
+    go : (last : Bool) → leb left 1 ≡ last → link_weight (cond last Link.Free (Link.Carries p (left - 1))) ≤ suc left - 1
     go true e = omega arith
     go false e = let l = leb-false left 1 e in omega arith
 
@@ -79,18 +81,18 @@ sent_weight (carries p left) = go (leb left 1) refl
 sent_less : (link : Link) (qs : List (List Packet))
     → sum_of size (flatten (queues_taken link qs)) + link_weight (link_sent (link_taken link qs)) ≤ sum_of size (flatten qs) + link_weight link - 1
 unfolding queues_taken link_taken loaded link_weight
-sent_less (carries p left) qs = let s = sent_weight (carries p left) in omega arith
-sent_less free qs = by_head (lowest_head qs) refl
+sent_less (Link.Carries p left) qs = let s = sent_weight (Link.Carries p left) in omega arith
+sent_less Link.Free qs = by_head (lowest_head qs) refl
   where
     by_head : (o : Option Packet) → lowest_head qs ≡ o
         → sum_of size (flatten (without_lowest_head qs)) + link_weight (link_sent (loaded o)) ≤ sum_of size (flatten qs) + 0 - 1
     by_head none e =
-        let s = sent_weight free in
+        let s = sent_weight Link.Free in
         let z : sum_of size (flatten (without_lowest_head qs)) ≡ 0 =
         ap (λ q. sum_of size (flatten q)) (nothing_taken qs e) ∙ ap (sum_of size) (nothing_waits qs e) ∙ no_size in
         omega arith
     by_head (some p) e =
-        let s = sent_weight (carries p p.units) in
+        let s = sent_weight (Link.Carries p p.units) in
         let t = taken_sum p qs e in
         omega arith
 
@@ -115,14 +117,14 @@ record Offering (box after : Box) (more : ℕ) : Type 0 where
   least : weight box ≤ weight after
 
 -- An offer leaves the counter and no less to send, and adds at most its units and one more.
-offer_weight : (box : Box) (n units : ℕ) (answer : Offered) → Offering box (after_offer box n units answer) (suc units)
+offer_weight : (box : Box) (n units : ℕ) (answer : Result ℕ Refusal) → Offering box (after_offer box n units answer) (suc units)
 unfolding after_offer weight joined
-offer_weight box n units (Offered.Accepted serial) =
+offer_weight box n units (Ok serial) =
     let p : Packet = record { serial = serial; connection = n; units = units; arrival = box.counter } in
     let a = joined_most (factor box.settings (connection box n).class) p box.queues in
     let b = joined_least (factor box.settings (connection box n).class) p box.queues in
     record { counter_stays = refl; most = omega arith; least = omega arith }
-offer_weight box n units (Offered.Refused why) = record { counter_stays = refl; most = omega arith; least = omega arith }
+offer_weight box n units (Err why) = record { counter_stays = refl; most = omega arith; least = omega arith }
 
 -- The offers of a slot leave the counter and no less to send, and add at most what their arrivals can.
 offers_weight : (numbers : List ℕ) (l : List (Placed Arrival)) (box : Box)
@@ -158,8 +160,8 @@ some_to_come slot (a ∷ l) e = go (ltb a.entry.slot slot) refl (some_to_come sl
 -- A link that carries a packet has something to send.
 link_length : (l : Link) → length (on_link l) ≤ link_weight l
 unfolding on_link link_weight
-link_length free = omega arith
-link_length (carries p left) = omega arith
+link_length Link.Free = omega arith
+link_length (Link.Carries p left) = omega arith
 
 -- A box that is not empty has something to send.
 some_to_send : (box : Box) → eqb (length (packets box)) 0 ≡ false → 1 ≤ weight box
@@ -206,15 +208,15 @@ stopped_same zero k answer l numbers box departed h = absurd (let z = h in omega
 stopped_same (suc n) k answer l numbers box departed h = rw (native.Mathlib.Nat.suc-add n k) refl
 
 -- After a slot: a refused step ends the run, any other one moves the box.
-after_step_same : (n k : ℕ) (l : List (Placed Arrival)) (numbers : List ℕ) (box : Box) (departed : ℕ) (answer : Stepped) → 1 ≤ n
+after_step_same : (n k : ℕ) (l : List (Placed Arrival)) (numbers : List ℕ) (box : Box) (departed : ℕ) (answer : Result Stepped Refusal) → 1 ≤ n
     → slots (n + k) (phase l (moved box) 0) l numbers (moved box) departed ≡ slots n (phase l (moved box) 0) l numbers (moved box) departed
     → slots (n + k) (phase l (after_step box answer) (stepped answer).number) l numbers (after_step box answer) departed
     ≡ slots n (phase l (after_step box answer) (stepped answer).number) l numbers (after_step box answer) departed
 unfolding after_step stepped refusal phase
-after_step_same n k l numbers box departed Stepped.Idle h e = e
-after_step_same n k l numbers box departed (Stepped.Sending serial left) h e = e
-after_step_same n k l numbers box departed (Stepped.Departed serial connection arrival departure) h e = e
-after_step_same n k l numbers box departed (Stepped.Refused why) h e =
+after_step_same n k l numbers box departed (Ok Stepped.Idle) h e = e
+after_step_same n k l numbers box departed (Ok (Stepped.Sending serial left)) h e = e
+after_step_same n k l numbers box departed (Ok (Stepped.Departed serial connection arrival departure)) h e = e
+after_step_same n k l numbers box departed (Err why) h e =
     rw (refused_phase l box why) (stopped_same n k (refusal_number why) l numbers box departed h)
 
 -- Once there are more slots than the potential, still more change no line.
@@ -252,11 +254,11 @@ enough (suc n) k l numbers box departed h =
     go false e ih = ap (λ (m : List Line). after_offers.lines ++ departures numbers (step_answer after_offers.box) ++ m) (ih e)
 
 -- Admissions move neither the counter nor a packet.
-admission_weight : (box : Box) (c : Connection) (answer : Admitted)
+admission_weight : (box : Box) (c : Connection) (answer : Result ℕ Refusal)
     → ((after_admission box c answer).counter ≡ box.counter) × (weight (after_admission box c answer) ≡ weight box)
 unfolding after_admission with_standing weight
-admission_weight box c (Admitted.Taken n) = (refl, refl)
-admission_weight box c (Admitted.Refused why) = (refl, refl)
+admission_weight box c (Ok n) = (refl, refl)
+admission_weight box c (Err why) = (refl, refl)
 
 -- The admissions leave the counter and what is left to send.
 pub admissions_weight : (place : ℕ) (cs : List Connection) (box : Box)

@@ -5,9 +5,9 @@ use mathlib.Core.List.{List, [], ◌∷◌, map, flatten, Memᴰ}
 use native.Mathlib.Decide.{dec_lt}
 use native.Mathlib.Omega.{arith}
 use lib.ListN.{length, length-append}
-use Rattle.meaning.specs.Run.{Line, admit_line, offer_line, depart_line, end_line, refused_line, stop_line}
 use Rattle.meaning.specs.Lines.{ascii, digit, decimal, numbers_text, line_of, line_text, text_of}
 use Rattle.meaning.proofs.Decimal.{decimal_small, decimal_large}
+use Rattle.meaning.specs.declared.Line.{Line}
 
 -- A number below ten to the k has at most k digits.
 digits_most : (k n : ℕ) → n < 10 ^ suc k → length (decimal n) ≤ suc k
@@ -31,23 +31,23 @@ printed_most n h = digits_most 9 n h
 
 -- A line whose numbers are printed numbers.
 abbrev pub PrintedLine : Line → Type 0
-PrintedLine (admit_line a b c) = Printed a × Printed b × Printed c
-PrintedLine (offer_line a b c) = Printed a × Printed b × Printed c
-PrintedLine (depart_line a b c d) = Printed a × Printed b × Printed c × Printed d
-PrintedLine (end_line a b c) = Printed a × Printed b × Printed c
-PrintedLine (refused_line a) = Printed a
-PrintedLine (stop_line a) = Printed a
+PrintedLine (Line.Admit a b c) = Printed a × Printed b × Printed c
+PrintedLine (Line.Offer a b c) = Printed a × Printed b × Printed c
+PrintedLine (Line.Depart a b c d) = Printed a × Printed b × Printed c × Printed d
+PrintedLine (Line.End a b c) = Printed a × Printed b × Printed c
+PrintedLine (Line.Refused a) = Printed a
+PrintedLine (Line.Stop a) = Printed a
 
 -- A line whose numbers are printed numbers has at most 51 bytes.
 line_most : (l : Line) → PrintedLine l → length (line_text l) ≤ 51
 unfolding line_text line_of numbers_text ascii
-line_most (admit_line a b c) p = simp length-append (omega (arith, printed_most a p.0, printed_most b p.1, printed_most c p.2))
-line_most (offer_line a b c) p = simp length-append (omega (arith, printed_most a p.0, printed_most b p.1, printed_most c p.2))
-line_most (depart_line a b c d) p =
+line_most (Line.Admit a b c) p = simp length-append (omega (arith, printed_most a p.0, printed_most b p.1, printed_most c p.2))
+line_most (Line.Offer a b c) p = simp length-append (omega (arith, printed_most a p.0, printed_most b p.1, printed_most c p.2))
+line_most (Line.Depart a b c d) p =
     simp length-append (omega (arith, printed_most a p.0, printed_most b p.1, printed_most c p.2, printed_most d p.3))
-line_most (end_line a b c) p = simp length-append (omega (arith, printed_most a p.0, printed_most b p.1, printed_most c p.2))
-line_most (refused_line a) p = simp length-append (omega (arith, printed_most a p))
-line_most (stop_line a) p = simp length-append (omega (arith, printed_most a p))
+line_most (Line.End a b c) p = simp length-append (omega (arith, printed_most a p.0, printed_most b p.1, printed_most c p.2))
+line_most (Line.Refused a) p = simp length-append (omega (arith, printed_most a p))
+line_most (Line.Stop a) p = simp length-append (omega (arith, printed_most a p))
 
 -- Lines whose numbers are printed numbers.
 abbrev pub AllPrinted : List Line → Type 0

@@ -1,14 +1,8 @@
 -- Document 01, "Answer numbers": the number of each answer, and its other result fields.
-use Rattle.std.specs.Prelude.{ℕ, List, [], ◌∷◌, replicate}
+use Rattle.std.specs.Prelude.{ℕ, List, [], ◌∷◌, replicate, Result, Ok, Err}
 use Rattle.meaning.specs.declared.Refusal.{Refusal}
-use Rattle.meaning.specs.declared.Opened.{Opened}
-use Rattle.meaning.specs.declared.Admitted.{Admitted}
-use Rattle.meaning.specs.declared.Offered.{Offered}
 use Rattle.meaning.specs.declared.Stepped.{Stepped}
 use Rattle.meaning.specs.declared.Header.{Header}
-use Rattle.meaning.specs.declared.PlanRead.{PlanRead}
-use Rattle.meaning.specs.declared.PlanWritten.{PlanWritten}
-use Rattle.meaning.specs.declared.Printed.{Printed}
 
 -- An answer's number, 0 for success, and its other result fields in a fixed order.
 pub record Answer : Type 0 where
@@ -85,27 +79,27 @@ unfoldable pub refusal : ℕ → Refusal → Answer
 refusal fields why = record { number = refusal_number why; fields = replicate fields 0 }
 
 -- Opening has no other field.
-unfoldable pub opened : Opened → Answer
-opened Opened.Done = success []
-opened (Opened.Refused why) = refusal 0 why
+unfoldable pub opened : Result Unit Refusal → Answer
+opened (Ok tt) = success []
+opened (Err why) = refusal 0 why
 
 -- Admission: the connection's number, and t.
-unfoldable pub admitted : Admitted → Answer
-admitted (Admitted.Taken n) = success (n ∷ 0 ∷ [])
-admitted (Admitted.Refused why) = record { number = refusal_number why; fields = 0 ∷ failing_t why ∷ [] }
+unfoldable pub admitted : Result ℕ Refusal → Answer
+admitted (Ok n) = success (n ∷ 0 ∷ [])
+admitted (Err why) = record { number = refusal_number why; fields = 0 ∷ failing_t why ∷ [] }
 
 -- An offer: the packet's serial.
-unfoldable pub offered : Offered → Answer
-offered (Offered.Accepted serial) = success (serial ∷ [])
-offered (Offered.Refused why) = refusal 1 why
+unfoldable pub offered : Result ℕ Refusal → Answer
+offered (Ok serial) = success (serial ∷ [])
+offered (Err why) = refusal 1 why
 
 -- A step: the serial, the units left, the connection, the arrival and the departure.
 -- "The answer is idle, sending (serial and units left), or departed (serial, connection, arrival, departure)."
-unfoldable pub stepped : Stepped → Answer
-stepped Stepped.Idle = success (0 ∷ 0 ∷ 0 ∷ 0 ∷ 0 ∷ [])
-stepped (Stepped.Sending serial left) = success (serial ∷ left ∷ 0 ∷ 0 ∷ 0 ∷ [])
-stepped (Stepped.Departed serial connection arrival departure) = success (serial ∷ 0 ∷ connection ∷ arrival ∷ departure ∷ [])
-stepped (Stepped.Refused why) = refusal 5 why
+unfoldable pub stepped : Result Stepped Refusal → Answer
+stepped (Ok Stepped.Idle) = success (0 ∷ 0 ∷ 0 ∷ 0 ∷ 0 ∷ [])
+stepped (Ok (Stepped.Sending serial left)) = success (serial ∷ left ∷ 0 ∷ 0 ∷ 0 ∷ [])
+stepped (Ok (Stepped.Departed serial connection arrival departure)) = success (serial ∷ 0 ∷ connection ∷ arrival ∷ departure ∷ [])
+stepped (Err why) = refusal 5 why
 
 -- What the header of a plan says: D, M, and the count and the offset of each table.
 unfoldable pub header_fields : Header → List ℕ
@@ -121,16 +115,16 @@ header_fields h =
     []
 
 -- Reading a plan: what its header says.
-unfoldable pub plan_read : PlanRead → Answer
-plan_read (PlanRead.Good h) = success (header_fields h)
-plan_read (PlanRead.Refused why) = refusal 8 why
+unfoldable pub plan_read : Result Header Refusal → Answer
+plan_read (Ok h) = success (header_fields h)
+plan_read (Err why) = refusal 8 why
 
 -- Writing a plan: the number of bytes written.
-unfoldable pub plan_written : PlanWritten → Answer
-plan_written (PlanWritten.Written n) = success (n ∷ [])
-plan_written (PlanWritten.Refused why) = refusal 1 why
+unfoldable pub plan_written : Result ℕ Refusal → Answer
+plan_written (Ok n) = success (n ∷ [])
+plan_written (Err why) = refusal 1 why
 
 -- Printing the run of a plan: the number of bytes written.
-unfoldable pub printed : Printed → Answer
-printed (Printed.Written n) = success (n ∷ [])
-printed (Printed.Refused why) = refusal 1 why
+unfoldable pub printed : Result ℕ Refusal → Answer
+printed (Ok n) = success (n ∷ [])
+printed (Err why) = refusal 1 why

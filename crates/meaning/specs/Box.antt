@@ -9,11 +9,7 @@ use Rattle.meaning.specs.Numbers.{Settings, largest_factor, settings_allowed, co
 use Rattle.meaning.specs.Numbers.{most_waiting, last_slot}
 use Rattle.meaning.specs.Envelope.{allowance_kept}
 use Rattle.meaning.specs.Queues.{rank}
-
--- The link is free, or carries a packet with so many units left to send.
-pub data Link : Type 0 where
-  free : Link
-  carries : Packet → ℕ → Link
+use Rattle.meaning.specs.declared.Link.{Link}
 
 -- "The box holds classes, connections, an allowance per connection, waiting packets, the packet on the link and the slot counter",
 -- and the count of accepted packets. The queue tagged k stands at place k.
@@ -47,8 +43,8 @@ waiting box = flatten box.queues
 
 -- The packet on the link, if there is one.
 unfoldable pub on_link : Link → List Packet
-on_link free = []
-on_link (carries p left) = p ∷ []
+on_link Link.Free = []
+on_link (Link.Carries p left) = p ∷ []
 
 -- The packets in the box: those that wait and the one on the link.
 unfoldable pub packets : Box → List Packet
@@ -92,8 +88,8 @@ packet_kept box p =
 
 -- "units left on the link from 1 to the length less 1".
 unfoldable pub link_kept : Link → Bool
-link_kept free = true
-link_kept (carries p left) = within 1 left (p.units - 1)
+link_kept Link.Free = true
+link_kept (Link.Carries p left) = within 1 left (p.units - 1)
 
 -- "that count at most the counter plus the packets in the box".
 unfoldable pub count_kept : Box → Bool

@@ -4,7 +4,8 @@ use Prim.Native.Char.{code}
 use Prim.Native.String as Str
 use Prim.Native.String.{String}
 use mathlib.Core.List.{List, [], ◌∷◌, ◌++◌, map, flatten}
-use Rattle.meaning.specs.Run.{Line, admit_line, offer_line, depart_line, end_line, refused_line, stop_line, run}
+use Rattle.meaning.specs.Run.{run}
+use Rattle.meaning.specs.declared.Line.{Line}
 
 -- The bytes of a fixed word.
 unfoldable pub ascii : String → List ℕ
@@ -37,12 +38,12 @@ line_of word ns = ascii word ++ ascii " " ++ numbers_text ns ++ ascii "\n"
 
 -- The text of a line.
 unfoldable pub line_text : Line → List ℕ
-line_text (admit_line place answer t) = line_of "ADMIT" (place ∷ answer ∷ t ∷ [])
-line_text (offer_line place answer serial) = line_of "OFFER" (place ∷ answer ∷ serial ∷ [])
-line_text (depart_line serial place arrival departure) = line_of "DEPART" (serial ∷ place ∷ arrival ∷ departure ∷ [])
-line_text (end_line counter accepted departed) = line_of "END" (counter ∷ accepted ∷ departed ∷ [])
-line_text (refused_line answer) = line_of "REFUSED" (answer ∷ [])
-line_text (stop_line answer) = line_of "STOP" (answer ∷ [])
+line_text (Line.Admit place answer t) = line_of "ADMIT" (place ∷ answer ∷ t ∷ [])
+line_text (Line.Offer place answer serial) = line_of "OFFER" (place ∷ answer ∷ serial ∷ [])
+line_text (Line.Depart serial place arrival departure) = line_of "DEPART" (serial ∷ place ∷ arrival ∷ departure ∷ [])
+line_text (Line.End counter accepted departed) = line_of "END" (counter ∷ accepted ∷ departed ∷ [])
+line_text (Line.Refused answer) = line_of "REFUSED" (answer ∷ [])
+line_text (Line.Stop answer) = line_of "STOP" (answer ∷ [])
 
 -- The text of lines, one after another.
 unfoldable pub text_of : List Line → List ℕ

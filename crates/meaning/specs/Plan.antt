@@ -1,13 +1,11 @@
 -- Document 01, "Plan file": the contents of a plan and its bytes, reading, writing, and the arrivals of a slot.
-use Rattle.std.specs.Prelude.{ℕ, zero, suc, ◌+◌, ◌*◌, ◌-◌, ◌/◌, ◌%◌, ◌^◌, Bool, true, cond, not, ◌&&◌, ◌||◌, length, get_or, leb, ltb, eqb}
+use Rattle.std.specs.Prelude.{ℕ, zero, suc, ◌+◌, ◌*◌, ◌-◌, ◌/◌, ◌%◌, ◌^◌, Bool, true, cond, not, ◌&&◌, ◌||◌, length, get_or, leb, ltb, eqb, Result, Ok, Err}
 use mathlib.Core.List.{List, [], ◌∷◌, ◌++◌, map, flatten}
 use Rattle.laws.specs.Tests.{every}
 use Rattle.laws.specs.Lists.{keep}
 use Rattle.laws.specs.Sums.{sum_of}
 use Rattle.meaning.specs.declared.Header.{Header}
 use Rattle.meaning.specs.declared.Refusal.{Refusal}
-use Rattle.meaning.specs.declared.PlanRead.{PlanRead}
-use Rattle.meaning.specs.declared.PlanWritten.{PlanWritten}
 use Rattle.meaning.specs.declared.Connection.{Connection}
 use Rattle.meaning.specs.declared.Arrival.{Arrival}
 use Rattle.meaning.specs.Numbers.{Settings}
@@ -134,13 +132,13 @@ unfoldable pub slots_wrong : List Arrival → Bool
 slots_wrong arrivals = not (never_falling_from 0 arrivals && every (λ a. leb a.slot last_arrival_slot) arrivals)
 
 -- "Reading: 13, 14, 15, 16." "The whole sum is tested before any later field is believed."
-unfoldable pub reading_answer : List ℕ → PlanRead
+unfoldable pub reading_answer : List ℕ → Result Header Refusal
 reading_answer bytes =
-    cond (size_wrong bytes) (PlanRead.Refused Refusal.WrongSize)
-    (cond (sum_wrong (words_of bytes)) (PlanRead.Refused Refusal.WrongSum)
-    (cond (layout_wrong (length bytes) (header_of (words_of bytes))) (PlanRead.Refused Refusal.WrongLayout)
-    (cond (slots_wrong (contents_of (words_of bytes) (header_of (words_of bytes))).arrivals) (PlanRead.Refused Refusal.WrongSlots)
-    (PlanRead.Good (header_of (words_of bytes))))))
+    cond (size_wrong bytes) (Err Refusal.WrongSize)
+    (cond (sum_wrong (words_of bytes)) (Err Refusal.WrongSum)
+    (cond (layout_wrong (length bytes) (header_of (words_of bytes))) (Err Refusal.WrongLayout)
+    (cond (slots_wrong (contents_of (words_of bytes) (header_of (words_of bytes))).arrivals) (Err Refusal.WrongSlots)
+    (Ok (header_of (words_of bytes))))))
 
 -- The words of an entry of each table.
 unfoldable pub connection_words : Connection → List ℕ
@@ -211,12 +209,12 @@ lent_wrong l =
     eqb (length l.arrivals % 3) 0)
 
 -- "Writing: 15, 16, 17": into so many bytes.
-unfoldable pub writing_answer : Lent → ℕ → PlanWritten
+unfoldable pub writing_answer : Lent → ℕ → Result ℕ Refusal
 writing_answer l room =
-    cond (lent_wrong l) (PlanWritten.Refused Refusal.WrongLayout)
-    (cond (slots_wrong (lent_plan l).arrivals) (PlanWritten.Refused Refusal.WrongSlots)
-    (cond (ltb room (size_of (lent_plan l))) (PlanWritten.Refused Refusal.TooShort)
-    (PlanWritten.Written (size_of (lent_plan l)))))
+    cond (lent_wrong l) (Err Refusal.WrongLayout)
+    (cond (slots_wrong (lent_plan l).arrivals) (Err Refusal.WrongSlots)
+    (cond (ltb room (size_of (lent_plan l))) (Err Refusal.TooShort)
+    (Ok (size_of (lent_plan l)))))
 
 -- "The arrivals of one slot": those of the list whose slot it is, in the list's order.
 unfoldable pub arrivals_of : ℕ → List Arrival → List Arrival

@@ -1,5 +1,5 @@
 -- The rest of a run from a box on, as lines, without a bound on its slots: what a program that runs slot after slot prints.
-use Rattle.std.specs.Prelude.{ℕ, suc, ◌+◌, ◌-◌, cond, leb, eqb}
+use Rattle.std.specs.Prelude.{ℕ, suc, ◌+◌, ◌-◌, cond, leb, eqb, Result, Ok, Err}
 use mathlib.Core.List.{List, [], ◌∷◌, flatten}
 use Rattle.laws.specs.Lists.{Placed, keep}
 use Rattle.laws.specs.Sums.{sum_of, largest_of}
@@ -7,9 +7,12 @@ use Rattle.meaning.specs.declared.Stepped.{Stepped}
 use Rattle.meaning.specs.declared.Packet.{Packet}
 use Rattle.meaning.specs.declared.Arrival.{Arrival}
 use Rattle.meaning.specs.Answers.{refusal_number}
-use Rattle.meaning.specs.Box.{Box, Link, free, carries}
+use Rattle.meaning.specs.Box.{Box}
 use Rattle.meaning.specs.Step.{moved}
-use Rattle.meaning.specs.Run.{Line, stop_line, phase, slots}
+use Rattle.meaning.specs.Run.{phase, slots}
+use Rattle.meaning.specs.declared.Refusal.{Refusal}
+use Rattle.meaning.specs.declared.Link.{Link}
+use Rattle.meaning.specs.declared.Line.{Line}
 
 -- What is left to send of a packet that waits, and one more.
 abbrev pub size : Packet → ℕ
@@ -17,8 +20,8 @@ size p = suc p.units
 
 -- What is left to send of the packet on the link, and one more.
 unfoldable pub link_weight : Link → ℕ
-link_weight free = 0
-link_weight (carries p left) = suc left
+link_weight Link.Free = 0
+link_weight (Link.Carries p left) = suc left
 
 -- What is left to send, a packet counting for one unit more.
 unfoldable pub weight : Box → ℕ
@@ -45,9 +48,9 @@ unfoldable pub rest_of : List (Placed Arrival) → List ℕ → Box → ℕ → 
 rest_of l numbers box departed = slots (suc (potential l box)) (phase l box 0) l numbers box departed
 
 -- After a step's answer: the rest of the run, or the line of a refused step.
-unfoldable pub after_answer : List (Placed Arrival) → List ℕ → Box → ℕ → Stepped → List Line
-after_answer l numbers box departed Stepped.Idle = rest_of l numbers (moved box) departed
-after_answer l numbers box departed (Stepped.Sending serial left) = rest_of l numbers (moved box) departed
-after_answer l numbers box departed (Stepped.Departed serial connection arrival departure) =
+unfoldable pub after_answer : List (Placed Arrival) → List ℕ → Box → ℕ → Result Stepped Refusal → List Line
+after_answer l numbers box departed (Ok Stepped.Idle) = rest_of l numbers (moved box) departed
+after_answer l numbers box departed (Ok (Stepped.Sending serial left)) = rest_of l numbers (moved box) departed
+after_answer l numbers box departed (Ok (Stepped.Departed serial connection arrival departure)) =
     rest_of l numbers (moved box) (departed + 1)
-after_answer l numbers box departed (Stepped.Refused why) = stop_line (refusal_number why) ∷ []
+after_answer l numbers box departed (Err why) = Line.Stop (refusal_number why) ∷ []

@@ -1,12 +1,9 @@
 -- Document 01, "The program and one whole run": from a plan to the lines that the program prints, as values.
-use Rattle.std.specs.Prelude.{ℕ, zero, suc, ◌+◌, ◌-◌, Bool, cond, ◌&&◌, List, [], ◌∷◌, ◌++◌, length, get_or, ltb, eqb}
+use Rattle.std.specs.Prelude.{ℕ, zero, suc, ◌+◌, ◌-◌, Bool, cond, ◌&&◌, List, [], ◌∷◌, ◌++◌, length, get_or, ltb, eqb, Result, Ok, Err}
 use Rattle.laws.specs.Tests.{within, every}
 use Rattle.laws.specs.Lists.{Placed, keep, placed_from}
 use Rattle.laws.specs.Sums.{sum_of, largest_of}
-use Rattle.meaning.specs.declared.Opened.{Opened}
-use Rattle.meaning.specs.declared.Admitted.{Admitted}
 use Rattle.meaning.specs.declared.Stepped.{Stepped}
-use Rattle.meaning.specs.declared.PlanRead.{PlanRead}
 use Rattle.meaning.specs.declared.Connection.{Connection}
 use Rattle.meaning.specs.Box.{Box, packets}
 use Rattle.meaning.specs.Answers.{refusal_number, admitted, offered, stepped}
@@ -14,16 +11,12 @@ use Rattle.meaning.specs.Calls.{new_box, opening_answer, admission_answer, after
 use Rattle.meaning.specs.Step.{step_answer, after_step}
 use Rattle.meaning.specs.declared.Arrival.{Arrival}
 use Rattle.meaning.specs.Plan.{Plan, words_of, contents_of, reading_answer}
+use Rattle.meaning.specs.declared.Refusal.{Refusal}
+use Rattle.meaning.specs.declared.Line.{Line}
+use Rattle.meaning.specs.declared.Header.{Header}
 
 -- "`ADMIT` place, answer, t. `OFFER` arrival place, answer, serial or 0. `DEPART` serial, connection's place, arrival, departure.
 -- `END` counter, accepted, departed." "`REFUSED` and the number"; "`STOP` and the number".
-pub data Line : Type 0 where
-  admit_line : (place answer t : ℕ) → Line
-  offer_line : (place answer serial : ℕ) → Line
-  depart_line : (serial place arrival departure : ℕ) → Line
-  end_line : (counter accepted departed : ℕ) → Line
-  refused_line : (answer : ℕ) → Line
-  stop_line : (answer : ℕ) → Line
 
 -- After the admissions: their lines, the number of each place of the file (0 for one that was refused), and the box.
 pub record AfterAdmissions : Type 0 where
@@ -32,8 +25,8 @@ pub record AfterAdmissions : Type 0 where
   pub box : Box
 
 -- The line of an admission.
-unfoldable pub line_of_admission : ℕ → Admitted → Line
-line_of_admission place answer = admit_line place (admitted answer).number (get_or (admitted answer).fields 1 0)
+unfoldable pub line_of_admission : ℕ → Result ℕ Refusal → Line
+line_of_admission place answer = Line.Admit place (admitted answer).number (get_or (admitted answer).fields 1 0)
 
 -- "admits in file order": the connections from this place on.
 unfoldable pub admit_all : ℕ → List Connection → Box → AfterAdmissions
@@ -69,17 +62,17 @@ offer_all numbers (a ∷ rest) box =
     let answer = offer_answer box n a.entry.units in
     let after = offer_all numbers rest (after_offer box n a.entry.units answer) in
     record {
-      lines = offer_line a.place (offered answer).number (get_or (offered answer).fields 0 0) ∷ after.lines;
+      lines = Line.Offer a.place (offered answer).number (get_or (offered answer).fields 0 0) ∷ after.lines;
       box = after.box;
     }
 
 -- The line of a step, if it has one: that of a departure.
-unfoldable pub departures : List ℕ → Stepped → List Line
-departures numbers Stepped.Idle = []
-departures numbers (Stepped.Sending serial left) = []
-departures numbers (Stepped.Departed serial connection arrival departure) =
-    depart_line serial (place_of 1 numbers connection) arrival departure ∷ []
-departures numbers (Stepped.Refused why) = []
+unfoldable pub departures : List ℕ → Result Stepped Refusal → List Line
+departures numbers (Ok Stepped.Idle) = []
+departures numbers (Ok (Stepped.Sending serial left)) = []
+departures numbers (Ok (Stepped.Departed serial connection arrival departure)) =
+    Line.Depart serial (place_of 1 numbers connection) arrival departure ∷ []
+departures numbers (Err why) = []
 
 -- How a run stands before a slot: it goes on, it is at its end, or a step was refused with this number.
 pub data Phase : Type 0 where
@@ -100,8 +93,8 @@ phase arrivals box (suc n) = stopped (suc n)
 -- `END`". The first number bounds the slots: `slots_enough` is enough of them.
 unfoldable pub slots : ℕ → Phase → List (Placed Arrival) → List ℕ → Box → ℕ → List Line
 slots zero now arrivals numbers box departed = []
-slots (suc n) (stopped answer) arrivals numbers box departed = stop_line answer ∷ []
-slots (suc n) ended arrivals numbers box departed = end_line box.counter box.accepted departed ∷ []
+slots (suc n) (stopped answer) arrivals numbers box departed = Line.Stop answer ∷ []
+slots (suc n) ended arrivals numbers box departed = Line.End box.counter box.accepted departed ∷ []
 slots (suc n) going arrivals numbers box departed =
     let after = offer_all numbers (keep (λ a. eqb a.entry.slot box.counter) arrivals) box in
     let answer = step_answer after.box in
@@ -125,16 +118,16 @@ open_run plan =
     slots (slots_enough arrivals) (phase arrivals admissions.box 0) arrivals admissions.numbers admissions.box 0
 
 -- "opens a box": the program lends as many words as a box takes, so only 2 can be answered.
-unfoldable pub plan_run : Plan → Opened → List Line
-plan_run plan Opened.Done = open_run plan
-plan_run plan (Opened.Refused why) = refused_line (refusal_number why) ∷ []
+unfoldable pub plan_run : Plan → Result Unit Refusal → List Line
+plan_run plan (Ok tt) = open_run plan
+plan_run plan (Err why) = Line.Refused (refusal_number why) ∷ []
 
 -- "A plan refused by reading or opening prints only `REFUSED` and the number."
-unfoldable pub read_run : List ℕ → PlanRead → List Line
-read_run bytes (PlanRead.Good h) =
+unfoldable pub read_run : List ℕ → Result Header Refusal → List Line
+read_run bytes (Ok h) =
     let plan = contents_of (words_of bytes) h in
     plan_run plan (opening_answer 0 0 plan.settings)
-read_run bytes (PlanRead.Refused why) = refused_line (refusal_number why) ∷ []
+read_run bytes (Err why) = Line.Refused (refusal_number why) ∷ []
 
 -- "It reads a plan on standard input": the lines for these bytes.
 unfoldable pub run : List ℕ → List Line

@@ -1,8 +1,10 @@
 // What the code and the definitions both speak of, each declared once: the things that document 01 names, and the answers of the calls.
 #![tactic(auto)]
 
+pub mod refusals;
+
 // What a connection asks for: the number of its class, its longest packet s, its burst b and its period T.
-#[derive(Clone, Copy)]
+#[derive(Clone, Copy, Debug, Default, PartialEq, Eq)]
 pub struct Connection {
     pub class: u32,
     pub longest: u32,
@@ -12,21 +14,21 @@ pub struct Connection {
 
 // "The allowance record of a connection": the slot at which the next credit comes back, which is the next conforming slot where none is
 // left, and the burst credit.
-#[derive(Clone, Copy)]
+#[derive(Clone, Copy, Debug, PartialEq, Eq)]
 pub struct Allowance {
     pub next: u32,
     pub credit: u32,
 }
 
 // A connection that stands, with its allowance.
-#[derive(Clone, Copy)]
+#[derive(Clone, Copy, Debug, PartialEq, Eq)]
 pub struct Standing {
     pub asked: Connection,
     pub allowance: Allowance,
 }
 
 // An accepted packet: its serial, the number of its connection, its length in units and the slot of its arrival.
-#[derive(Clone, Copy)]
+#[derive(Clone, Copy, Debug, Default, PartialEq, Eq)]
 pub struct Packet {
     pub serial: u32,
     pub connection: u32,
@@ -34,16 +36,24 @@ pub struct Packet {
     pub arrival: u32,
 }
 
+// The link is free, or carries a packet with so many units left to send.
+#[derive(Clone, Copy, Debug, PartialEq, Eq)]
+pub enum Link {
+    Free,
+    Carries { packet: Packet, left: u32 },
+}
+
 // "slot, connection, length per arrival"; the connection is named by its place in the file.
-#[derive(Clone, Copy)]
+#[derive(Clone, Copy, Debug, Default, PartialEq, Eq)]
 pub struct Arrival {
     pub slot: u32,
     pub place: u32,
     pub units: u32,
 }
 
-// Why a call refuses: the rows of document 01's "Answer numbers", in their order. Their numbers are in specs/Answers.antt.
-#[derive(Clone, Copy)]
+// Why a call refuses: the rows of document 01's "Answer numbers", in their order. A call answers `Result`: what it did, or its refusal.
+// What each answer is told as, its number and its other fields, stands in specs/Answers.antt.
+#[derive(Clone, Copy, Debug, PartialEq, Eq)]
 pub enum Refusal {
     NotSound,
     SettingsOffRange,
@@ -64,31 +74,8 @@ pub enum Refusal {
     TooShort,
 }
 
-// The answers of the calls: what is done, or why it is refused. Their numbers and values are in specs/Answers.antt.
-
-// Opening a box.
-#[derive(Clone, Copy)]
-pub enum Opened {
-    Done,
-    Refused(Refusal),
-}
-
-// Admission: the connection's number.
-#[derive(Clone, Copy)]
-pub enum Admitted {
-    Taken(u32),
-    Refused(Refusal),
-}
-
-// Offering a packet: its serial.
-#[derive(Clone, Copy)]
-pub enum Offered {
-    Accepted(u32),
-    Refused(Refusal),
-}
-
-// A step.
-#[derive(Clone, Copy)]
+// What a step does: "The answer is idle, sending (serial and units left), or departed (serial, connection, arrival, departure)."
+#[derive(Clone, Copy, Debug, PartialEq, Eq)]
 pub enum Stepped {
     Idle,
     Sending {
@@ -101,18 +88,17 @@ pub enum Stepped {
         arrival: u32,
         departure: u32,
     },
-    Refused(Refusal),
 }
 
 // A table of a plan: how many entries it has, and the byte at which it starts.
-#[derive(Clone, Copy)]
+#[derive(Clone, Copy, Debug, PartialEq, Eq)]
 pub struct Table {
     pub count: usize,
     pub start: usize,
 }
 
 // What the header of a plan says.
-#[derive(Clone, Copy)]
+#[derive(Clone, Copy, Debug, PartialEq, Eq)]
 pub struct Header {
     pub interval: u32,
     pub cycle: u32,
@@ -121,23 +107,31 @@ pub struct Header {
     pub arrivals: Table,
 }
 
-// Reading a plan: its header.
-#[derive(Clone, Copy)]
-pub enum PlanRead {
-    Good(Header),
-    Refused(Refusal),
-}
-
-// Writing a plan: the number of bytes written.
-#[derive(Clone, Copy)]
-pub enum PlanWritten {
-    Written(usize),
-    Refused(Refusal),
-}
-
-// Printing the run of a plan: the number of bytes written.
-#[derive(Clone, Copy)]
-pub enum Printed {
-    Written(usize),
-    Refused(Refusal),
+// "`ADMIT` place, answer, t. `OFFER` arrival place, answer, serial or 0. `DEPART` serial, connection's place, arrival, departure.
+// `END` counter, accepted, departed." "`REFUSED` and the number"; "`STOP` and the number".
+#[derive(Clone, Copy, Debug, PartialEq, Eq)]
+pub enum Line {
+    Admit {
+        place: u32,
+        answer: u32,
+        t: u32,
+    },
+    Offer {
+        place: u32,
+        answer: u32,
+        serial: u32,
+    },
+    Depart {
+        serial: u32,
+        place: u32,
+        arrival: u32,
+        departure: u32,
+    },
+    End {
+        counter: u32,
+        accepted: u32,
+        departed: u32,
+    },
+    Refused(u32),
+    Stop(u32),
 }

@@ -8,7 +8,6 @@ use native.Mathlib.Omega.{arith}
 use lib.ListN.{length, drop}
 use lib.Seq.{drop-append-add, drop-drop}
 use Rattle.laws.specs.Tests.{bool_cases}
-use Rattle.meaning.specs.declared.Opened.{Opened}
 use Rattle.meaning.specs.Numbers.{Settings}
 use Rattle.meaning.specs.Box.{Box, sound}
 use Rattle.meaning.specs.Calls.{new_box, opening_answer}
@@ -26,6 +25,8 @@ use Rattle.guarantees.specs.Runs.{Call, admit, offer, step, after}
 use Rattle.guarantees.proofs.Always.{sound_after}
 use Rattle.memory.specs.Runs.{left_by, left_by_run, BeyondKept}
 use Rattle.tables.proofs.Opened.{opened_allowed, words_enough}
+use Rattle.std.proofs.Common.{Result, Ok, Err}
+use Rattle.meaning.specs.declared.Refusal.{Refusal}
 
 -- The words of a sound box take none of them.
 put_beyond : (box : Box) (ws : List ℕ) → sound box ≡ true → box_words ≤ length ws → BeyondKept ws (put box ws)
@@ -69,8 +70,8 @@ pub opening_keeps_beyond : (set : Settings) (ws : List ℕ) → BeyondKept ws (o
 unfolding opened
 opening_keeps_beyond set ws = go (opening_answer box_words (length ws) set) refl
   where
-    go : (r : Opened) → opening_answer box_words (length ws) set ≡ r → BeyondKept ws (after_opening set ws r)
-    go Opened.Done e =
+    go : (r : Result Unit Refusal) → opening_answer box_words (length ws) set ≡ r → BeyondKept ws (after_opening set ws r)
+    go (Ok tt) e =
         unfold after_opening in put_beyond (new_box set) ws (new_box_sound set (opened_allowed set ws (unfold opened in e)))
         (words_enough set ws (unfold opened in e))
-    go (Opened.Refused why) e = unfold after_opening in (refl, refl)
+    go (Err why) e = unfold after_opening in (refl, refl)

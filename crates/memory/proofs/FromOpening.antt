@@ -3,7 +3,6 @@ use Prim.Native.Nat.{ℕ}
 use mathlib.Core.Path.{◌≡◌, ap, ◌∙◌}
 use mathlib.Core.Bool.{true}
 use mathlib.Core.List.{List}
-use Rattle.meaning.specs.declared.Opened.{Opened}
 use Rattle.meaning.specs.Numbers.{Settings}
 use Rattle.meaning.specs.Calls.{new_box}
 use Rattle.words.specs.Sound.{sound_words}
@@ -12,9 +11,10 @@ use Rattle.tables.proofs.Opened.{opened_sound, opened_new}
 use Rattle.guarantees.specs.Runs.{Call, box_of, box_after, trace}
 use Rattle.memory.specs.Runs.{opened_trace, opened_words, opened_box}
 use Rattle.memory.proofs.RunOnWords.{run_on_words}
+use Rattle.std.proofs.Common.{Ok}
 
 -- So a run from them has the events of the run from a new box, leaves sound words, and these stand for the box after that run.
-pub run_from_opening : (set : Settings) (ws : List ℕ) → (opened set ws).0 ≡ Opened.Done → (calls : List Call) →
+pub run_from_opening : (set : Settings) (ws : List ℕ) → (opened set ws).0 ≡ (Ok tt) → (calls : List Call) →
     (opened_trace set ws calls ≡ trace (new_box set) calls) × (sound_words (opened_words set ws calls) ≡ true) ×
     (opened_box set ws calls ≡ box_of set calls)
 run_from_opening set ws done calls =

@@ -9,10 +9,6 @@ use lib.ListN.{length}
 use Rattle.laws.specs.Tests.{within}
 use Rattle.laws.specs.Finding.{Least}
 use Rattle.meaning.specs.declared.Refusal.{Refusal}
-use Rattle.meaning.specs.declared.Opened.{Opened}
-use Rattle.meaning.specs.declared.Admitted.{Admitted}
-use Rattle.meaning.specs.declared.Offered.{Offered}
-use Rattle.meaning.specs.declared.Stepped.{Stepped}
 use Rattle.meaning.specs.declared.Connection.{Connection}
 use Rattle.meaning.specs.Numbers.{Settings, connection_allowed, most_connections, most_waiting, last_slot}
 use Rattle.meaning.specs.Envelope.{may_have, fits}
@@ -37,6 +33,7 @@ use Rattle.memory.specs.Runs.{left_by, opened_trace, opened_words, opened_box}
 use Rattle.memory.proofs.RunOnWords.{left_by_call}
 use Rattle.tables.proofs.Opened.{opened_allowed}
 use Rattle.memory.proofs.FromOpening.{run_from_opening}
+use Rattle.std.proofs.Common.{Ok, Err}
 
 -- The answer of an offer or a step on sound words is that of their contents.
 offer_there : (ws : List ℕ) → sound_words ws ≡ true → (n units : ℕ) → offering ws n units ≡ offer_answer (contents ws) n units
@@ -62,21 +59,21 @@ module _ (ws : List ℕ) (h : sound_words ws ≡ true) (c : Connection) where
 
   -- With the numbers in range and room in the table, a connection is taken exactly when (11) and (12) hold at every t from 0 without end.
   pub taken_exactly_when : connection_allowed (contents ws).settings c ≡ true → length (contents ws).standing < most_connections →
-      (admission ws c ≡ Admitted.Taken (suc (length (contents ws).standing))) ↔
+      (admission ws c ≡ Ok (suc (length (contents ws).standing))) ↔
       HoldsWithoutEnd (contents ws).settings (with_newcomer (contents ws) c)
   taken_exactly_when = rw admission_there (Admitting.taken_exactly_when (contents ws) c (sound_contents ws h))
 
   -- The t given with 6 is the least that fails.
-  pub least_that_fails : (t : ℕ) → admission ws c ≡ Admitted.Refused (Refusal.ConditionFails t)
+  pub least_that_fails : (t : ℕ) → admission ws c ≡ Err (Refusal.ConditionFails t)
       → Least (condition_at (contents ws).settings (with_newcomer (contents ws) c)) 0 t
   least_that_fails = rw admission_there (Admitting.least_that_fails (contents ws) c)
 
   -- With answer 5 some t fails too.
-  pub rate_fails_somewhere : admission ws c ≡ (Admitted.Refused Refusal.RateExceeded) →
+  pub rate_fails_somewhere : admission ws c ≡ (Err Refusal.RateExceeded) →
       (t : ℕ) × (condition_at (contents ws).settings (with_newcomer (contents ws) c) t ≡ false)
   rate_fails_somewhere = rw admission_there (Admitting.rate_fails_somewhere (contents ws) c)
 
-module _ (set : Settings) (ws : List ℕ) (done : (opened set ws).0 ≡ Opened.Done) (calls : List Call) where
+module _ (set : Settings) (ws : List ℕ) (done : (opened set ws).0 ≡ (Ok tt)) (calls : List Call) where
   -- The events are those of the run from a new box, and the words stand for the box after it.
   events : opened_trace set ws calls ≡ trace (new_box set) calls
   events = (run_from_opening set ws done calls).0
@@ -105,8 +102,8 @@ module _ (set : Settings) (ws : List ℕ) (done : (opened set ws).0 ≡ Opened.D
       within 1 units (connection (opened_box set ws calls) n).longest ≡ true →
       fits (may_have (connection (opened_box set ws calls) n)) (slots_of n (accepted_in (opened_trace set ws calls)))
       (opened_box set ws calls).counter ≡ true →
-      (offering (opened_words set ws calls) n units ≡ Offered.Accepted (suc (opened_box set ws calls).accepted)) ⊎
-      ((offering (opened_words set ws calls) n units ≡ (Offered.Refused Refusal.StoreFull)) ×
+      (offering (opened_words set ws calls) n units ≡ Ok (suc (opened_box set ws calls).accepted)) ⊎
+      ((offering (opened_words set ws calls) n units ≡ (Err Refusal.StoreFull)) ×
       (length (waiting (opened_box set ws calls)) ≡ most_waiting))
   turned_away_only_when_full n units =
       rw (offer_there (opened_words set ws calls) every_run_sound n units, box, events)
@@ -115,7 +112,7 @@ module _ (set : Settings) (ws : List ℕ) (done : (opened set ws).0 ≡ Opened.D
   -- Answer 9 is given to an offer of permitted length exactly when the packet does not fit the envelope.
   pub nine_exactly_when_it_does_not_fit : (n units : ℕ) → stands (opened_box set ws calls) n ≡ true →
       within 1 units (connection (opened_box set ws calls) n).longest ≡ true →
-      (offering (opened_words set ws calls) n units ≡ (Offered.Refused Refusal.NotFitting)) ↔
+      (offering (opened_words set ws calls) n units ≡ (Err Refusal.NotFitting)) ↔
       (fits (may_have (connection (opened_box set ws calls) n)) (slots_of n (accepted_in (opened_trace set ws calls)))
       (opened_box set ws calls).counter ≡ false)
   nine_exactly_when_it_does_not_fit n units =
@@ -165,7 +162,7 @@ module _ (set : Settings) (ws : List ℕ) (done : (opened set ws).0 ≡ Opened.D
   never_late = rw (box, events) (Statements.never_late set (opened_allowed set ws done) calls)
 
   -- Answer 11 is never given in a run.
-  pub turn_never_blocked : stepping (opened_words set ws calls) ≡ (Stepped.Refused Refusal.TurnBlocked) → ⊥
+  pub turn_never_blocked : stepping (opened_words set ws calls) ≡ (Err Refusal.TurnBlocked) → ⊥
   turn_never_blocked =
       rw (step_there (opened_words set ws calls) every_run_sound, box) (Turning.turn_never_blocked set (opened_allowed set ws done) calls)
 
@@ -177,7 +174,7 @@ module _ (set : Settings) (ws : List ℕ) (done : (opened set ws).0 ≡ Opened.D
 
 -- Isolation: two runs in memory, from openings with the same settings, with the same admissions and the same offers of one connection, all
 -- of these at the same slots and in the same order among themselves, give it the same offer answers, serials aside, if neither answers 10.
-pub isolation : (set : Settings) (ws others : List ℕ) → (opened set ws).0 ≡ Opened.Done → (opened set others).0 ≡ Opened.Done →
+pub isolation : (set : Settings) (ws others : List ℕ) → (opened set ws).0 ≡ (Ok tt) → (opened set others).0 ≡ (Ok tt) →
     (n : ℕ) → 1 ≤ n → (calls different : List Call) →
     asked n (opened_trace set ws calls) ≡ asked n (opened_trace set others different) →
     never_ten (opened_trace set ws calls) ≡ true → never_ten (opened_trace set others different) ≡ true →

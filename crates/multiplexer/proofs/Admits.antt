@@ -12,7 +12,6 @@ use Rattle.laws.specs.Lists.{get_or_member}
 use Rattle.laws.specs.Search.{Search}
 use Rattle.laws.specs.Series.{length_series, get_or_series}
 use Rattle.meaning.specs.declared.Refusal.{Refusal}
-use Rattle.meaning.specs.declared.Admitted.{Admitted}
 use Rattle.meaning.specs.declared.Connection.{Connection}
 use Rattle.meaning.specs.Numbers.{Settings, class_count, class_allowed, longest_allowed, burst_allowed, period_allowed, connection_allowed}
 use Rattle.meaning.specs.Numbers.{most_connections}
@@ -32,6 +31,7 @@ use Rattle.words.proofs.TestedSound.{sound_contents}
 use Rattle.admission.specs.Asking.{Ready, with_asked}
 use Rattle.multiplexer.specs.Promised.{Leaves}
 use Rattle.multiplexer.proofs.Sounds.{facts, leaves_same, leaves}
+use Rattle.std.proofs.Common.{Result, Ok, Err}
 
 -- A connection that stands, as the search reads it.
 row_at : (ws : List ℕ) (i : ℕ) → i < word ws row_count_at → get_or (connections (contents ws)) i no_connection ≡ asked_at ws i
@@ -109,19 +109,19 @@ module _ (set : Settings) (c : Connection) where
 -- The answers of an admission on sound contents, in their order.
 module _ (b : Box) (c : Connection) (s : sound b ≡ true) where
   -- Where the newcomer is not allowed, the answer is 3.
-  pub answer_range : connection_allowed b.settings c ≡ false → Admitted.Refused Refusal.ConnectionOffRange ≡ admission_answer b c
+  pub answer_range : connection_allowed b.settings c ≡ false → Err Refusal.ConnectionOffRange ≡ admission_answer b c
   unfolding admission_answer
   answer_range e = rw (s, e) refl
 
   -- Where the newcomer is allowed and 32 connections stand, the answer is 4.
   pub answer_full : connection_allowed b.settings c ≡ true → most_connections ≤ length b.standing
-      → Admitted.Refused Refusal.TableFull ≡ admission_answer b c
+      → Err Refusal.TableFull ≡ admission_answer b c
   unfolding admission_answer
   answer_full e f = rw (s, e, le-leb most_connections (length b.standing) f) refl
 
   -- Where there is room and the rate exceeds M, the answer is 5.
   pub answer_rate : connection_allowed b.settings c ≡ true → length b.standing < most_connections
-      → b.settings.cycle < rate b.settings (with_newcomer b c) → Admitted.Refused Refusal.RateExceeded ≡ admission_answer b c
+      → b.settings.cycle < rate b.settings (with_newcomer b c) → Err Refusal.RateExceeded ≡ admission_answer b c
   unfolding admission_answer rate_holds
   answer_rate e f g =
       let rate_is = rate b.settings (with_newcomer b c) in
@@ -139,21 +139,21 @@ module _ (b : Box) (c : Connection) (s : sound b ≡ true) where
 -- What an answer leaves.
 module _ (ws : List ℕ) (c : Connection) (h : sound_words ws ≡ true) where
   -- The answer to the newcomer.
-  abbrev answer : Admitted
+  abbrev answer : Result ℕ Refusal
   answer = admission_answer (contents ws) c
 
   -- A refusal leaves the words as they were.
-  pub refused : (r : Admitted) → r ≡ answer → after_admission (contents ws) c r ≡ contents ws
+  pub refused : (r : Result ℕ Refusal) → r ≡ answer → after_admission (contents ws) c r ≡ contents ws
       → (r ≡ answer) × Leaves ws ws (after_admission (contents ws) c answer)
   refused r e same = (e, subst (Leaves ws ws) (sym same ∙ ap (after_admission (contents ws) c) e) (leaves_same ws h))
 
   -- A connection that is taken stands in a new row.
-  pub taken : (after : List ℕ) (n : ℕ) (row : Standing) → row ≡ record { asked = c; allowance = full c } → Admitted.Taken n ≡ answer
+  pub taken : (after : List ℕ) (n : ℕ) (row : Standing) → row ≡ record { asked = c; allowance = full c } → Ok n ≡ answer
       → Become ws after (with_standing (contents ws) ((contents ws).standing ++ (row ∷ [])))
-      → (Admitted.Taken n ≡ answer) × Leaves ws after (after_admission (contents ws) c answer)
+      → (Ok n ≡ answer) × Leaves ws after (after_admission (contents ws) c answer)
   unfolding after_admission
   taken after n row f e b =
-      let k : with_standing (contents ws) ((contents ws).standing ++ (row ∷ [])) ≡ after_admission (contents ws) c (Admitted.Taken n) =
+      let k : with_standing (contents ws) ((contents ws).standing ++ (row ∷ [])) ≡ after_admission (contents ws) c (Ok n) =
       ap (λ x. with_standing (contents ws) ((contents ws).standing ++ (x ∷ []))) f in (
         e,
         leaves ws after (after_admission (contents ws) c answer) h (admission_keeps_sound (contents ws) c (sound_contents ws h))

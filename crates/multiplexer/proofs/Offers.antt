@@ -9,13 +9,12 @@ use lib.ListN.{length, set, length-append}
 use borrow.Author.Tests.{le-leb, lt-leb}
 use Rattle.laws.specs.Tests.{within, within_facts}
 use Rattle.meaning.specs.declared.Refusal.{Refusal}
-use Rattle.meaning.specs.declared.Offered.{Offered}
 use Rattle.meaning.specs.Numbers.{factor, largest_factor, most_waiting}
 use Rattle.meaning.specs.declared.Allowance.{Allowance}
 use Rattle.meaning.specs.Envelope.{full, came_back, refilled, conforms, charged, allowance_kept}
 use Rattle.meaning.specs.Queues.{join_tail}
 use Rattle.meaning.specs.declared.Packet.{Packet}
-use Rattle.meaning.specs.Box.{Box, Link, free, carries, connection, stands, waiting, on_link, packets, sound}
+use Rattle.meaning.specs.Box.{Box, connection, stands, waiting, on_link, packets, sound}
 use Rattle.meaning.specs.Calls.{allowance, with_standing, charged_at, joined, offer_answer, after_offer}
 use Rattle.meaning.proofs.Facts.{ConnectionFacts, settings_facts}
 use Rattle.meaning.proofs.KeptByOffer.{asked_allowed, allowance_kept_lem, factor_within, offer_keeps_sound}
@@ -35,6 +34,8 @@ use Rattle.admission.proofs.Tables.{class_count_lem}
 use Rattle.envelope.specs.Record.{sender, Ready}
 use Rattle.multiplexer.specs.Promised.{Leaves, RowReady, Acceptable, accepted_box}
 use Rattle.multiplexer.proofs.Sounds.{facts, leaves_same, leaves}
+use Rattle.std.proofs.Common.{Result, Ok, Err}
+use Rattle.meaning.specs.declared.Link.{Link}
 
 -- The envelope uses only the burst and the period of a connection.
 pub conforms_same : (row : Standing) (a : Allowance) (slot : ℕ)
@@ -129,8 +130,8 @@ accepted_most ws h =
     omega arith
   where
     on_link_lem : (l : Link) → length (on_link l) ≤ 1
-    on_link_lem free = omega arith
-    on_link_lem (carries p left) = omega arith
+    on_link_lem Link.Free = omega arith
+    on_link_lem (Link.Carries p left) = omega arith
 
 -- The word of the count of accepted packets.
 accepted_word : (ws : List ℕ) → word ws accepted_at ≡ (contents ws).accepted
@@ -247,52 +248,52 @@ packet_is ws n units serial slot e f =
 -- The answers of an offer on sound contents, in their order.
 module _ (b : Box) (n units : ℕ) (s : sound b ≡ true) where
   -- Where no such connection stands, the answer is 7.
-  pub answer_unknown : stands b n ≡ false → (Offered.Refused Refusal.NoConnection) ≡ offer_answer b n units
+  pub answer_unknown : stands b n ≡ false → (Err Refusal.NoConnection) ≡ offer_answer b n units
   unfolding offer_answer
   answer_unknown e = rw (s, e) refl
 
   -- Where the connection stands and the length is 0 or above s, the answer is 8.
   pub answer_length : stands b n ≡ true → within 1 units (connection b n).longest ≡ false
-      → (Offered.Refused Refusal.WrongLength) ≡ offer_answer b n units
+      → (Err Refusal.WrongLength) ≡ offer_answer b n units
   unfolding offer_answer
   answer_length e f = rw (s, e, f) refl
 
   -- Where the length is permitted and the packet does not fit the envelope, the answer is 9.
   pub answer_unfit : stands b n ≡ true → within 1 units (connection b n).longest ≡ true
       → conforms (connection b n) (allowance b n) b.counter ≡ false
-      → (Offered.Refused Refusal.NotFitting) ≡ offer_answer b n units
+      → (Err Refusal.NotFitting) ≡ offer_answer b n units
   unfolding offer_answer
   answer_unfit e f g = rw (s, e, f, g) refl
 
   -- Where the packet fits the envelope and 1,024 packets wait, the answer is 10.
   pub answer_full : stands b n ≡ true → within 1 units (connection b n).longest ≡ true
       → conforms (connection b n) (allowance b n) b.counter ≡ true
-      → most_waiting ≤ length (waiting b) → (Offered.Refused Refusal.StoreFull) ≡ offer_answer b n units
+      → most_waiting ≤ length (waiting b) → (Err Refusal.StoreFull) ≡ offer_answer b n units
   unfolding offer_answer
   answer_full e f g h = rw (s, e, f, g, le-leb most_waiting (length (waiting b)) h) refl
 
   -- Where the packet fits and there is room, it is accepted with the next serial.
   pub answer_accepted : stands b n ≡ true → within 1 units (connection b n).longest ≡ true
       → conforms (connection b n) (allowance b n) b.counter ≡ true
-      → length (waiting b) < most_waiting → Offered.Accepted (suc b.accepted) ≡ offer_answer b n units
+      → length (waiting b) < most_waiting → Ok (suc b.accepted) ≡ offer_answer b n units
   unfolding offer_answer
   answer_accepted e f g h = rw (s, e, f, g, lt-leb most_waiting (length (waiting b)) h) refl
 
 -- What an answer leaves.
 module _ (ws : List ℕ) (n units : ℕ) (h : sound_words ws ≡ true) where
   -- A refusal leaves the words as they were.
-  pub refused : (r : Offered) → r ≡ offer_answer (contents ws) n units → after_offer (contents ws) n units r ≡ contents ws
+  pub refused : (r : Result ℕ Refusal) → r ≡ offer_answer (contents ws) n units → after_offer (contents ws) n units r ≡ contents ws
       → (r ≡ offer_answer (contents ws) n units) × Leaves ws ws (after_offer (contents ws) n units (offer_answer (contents ws) n units))
   refused r e same = (e, subst (Leaves ws ws) (sym same ∙ ap (after_offer (contents ws) n units) e) (leaves_same ws h))
 
   -- A packet that is taken leaves the box with it.
   pub taken : (after : List ℕ) (serial : ℕ) → serial ≡ suc (contents ws).accepted
-      → Offered.Accepted (suc (contents ws).accepted) ≡ offer_answer (contents ws) n units
+      → Ok (suc (contents ws).accepted) ≡ offer_answer (contents ws) n units
       → Become ws after (accepted_box (contents ws) n units)
-      → (Offered.Accepted serial ≡ offer_answer (contents ws) n units) ×
+      → (Ok serial ≡ offer_answer (contents ws) n units) ×
       Leaves ws after (after_offer (contents ws) n units (offer_answer (contents ws) n units))
   taken after serial q e b = (
-    ap Offered.Accepted q ∙ e,
+    ap Ok q ∙ e,
     leaves ws after (after_offer (contents ws) n units (offer_answer (contents ws) n units)) h
         (offer_keeps_sound (contents ws) n units (sound_contents ws h))
         (subst (Become ws after) (ap (after_offer (contents ws) n units) e) b),

@@ -3,8 +3,6 @@ use Prim.Native.Nat.{ℕ}
 use mathlib.Core.Path.{◌≡◌, refl, ◌∙◌}
 use mathlib.Core.Bool.{true}
 use mathlib.Core.List.{List}
-use Rattle.meaning.specs.declared.Admitted.{Admitted}
-use Rattle.meaning.specs.declared.Offered.{Offered}
 use Rattle.meaning.specs.declared.Stepped.{Stepped}
 use Rattle.meaning.specs.Calls.{admission_answer, after_admission, offer_answer, after_offer}
 use Rattle.meaning.specs.Step.{step_answer, after_step}
@@ -15,22 +13,24 @@ use Rattle.multiplexer.specs.Promised.{admission, words_admitted, offering, word
 use Rattle.multiplexer.specs.Promises.{AdmitPromise, OfferPromise, StepPromise, AdmitSoundPromise, OfferSoundPromise}
 use Rattle.multiplexer.specs.Promises.{StepSoundPromise}
 use Rattle.multiplexer.proofs.Sounds.{promised}
+use Rattle.std.proofs.Common.{Result}
+use Rattle.meaning.specs.declared.Refusal.{Refusal}
 
 module _ (entry exit : List ℕ) (h : sound_words entry ≡ true) where
   -- On sound words what `admit_sound` promises is what `admit` promises.
-  pub admit_same : (c : Connection) (r : Admitted) → AdmitSoundPromise entry c r exit
+  pub admit_same : (c : Connection) (r : Result ℕ Refusal) → AdmitSoundPromise entry c r exit
       → AdmitPromise entry c.class c.longest c.burst c.period r exit
   unfolding admission words_admitted
   admit_same c r p =
       (p.0 ∙ rw h refl, promised entry exit (after_admission (contents entry) c (admission_answer (contents entry) c)) h p.1)
 
   -- On sound words what `offer_sound` promises is what `offer` promises.
-  pub offer_same : (n units : ℕ) (r : Offered) → OfferSoundPromise entry n units r exit → OfferPromise entry n units r exit
+  pub offer_same : (n units : ℕ) (r : Result ℕ Refusal) → OfferSoundPromise entry n units r exit → OfferPromise entry n units r exit
   unfolding offering words_offered
   offer_same n units r p =
       (p.0 ∙ rw h refl, promised entry exit (after_offer (contents entry) n units (offer_answer (contents entry) n units)) h p.1)
 
   -- On sound words what `step_sound` promises is what `step` promises.
-  pub step_same : (r : Stepped) → StepSoundPromise entry r exit → StepPromise entry r exit
+  pub step_same : (r : Result Stepped Refusal) → StepSoundPromise entry r exit → StepPromise entry r exit
   unfolding stepping words_stepped
   step_same r p = (p.0 ∙ rw h refl, promised entry exit (after_step (contents entry) (step_answer (contents entry))) h p.1)

@@ -13,23 +13,24 @@ use Rattle.meaning.specs.declared.Stepped.{Stepped}
 use Rattle.meaning.specs.Numbers.{last_slot}
 use Rattle.meaning.specs.Queues.{turn_at, turned, tag_zero_waits}
 use Rattle.meaning.specs.declared.Packet.{Packet}
-use Rattle.meaning.specs.Box.{Box, free, carries, waiting, sound}
+use Rattle.meaning.specs.Box.{Box, waiting, sound}
 use Rattle.meaning.specs.Step.{link_taken, queues_taken, sent_answer, link_sent, turn_due, queues_stepped, moved, step_answer, after_step}
 use Rattle.meaning.proofs.Facts.{settings_facts}
 use Rattle.meaning.proofs.TagsAndRanks.{turn_test}
 use Rattle.meaning.proofs.KeptByStep.{sent_moves, step_keeps_sound}
 use Rattle.meaning.proofs.QueueLaws.{turned_length}
 use Rattle.words.specs.Places.{word, interval_at, counter_at}
-use Rattle.words.specs.Contents.{contents, link_of, settings_at}
+use Rattle.words.specs.Contents.{contents, settings_at}
 use Rattle.words.specs.Sound.{Fitting, sound_words}
 use Rattle.words.specs.Changes.{Become}
 use Rattle.tables.specs.TableChanges.{with_link, raised}
 use Rattle.store.specs.StoreChanges.{with_queues, loaded_box}
-use Rattle.words.proofs.ContentsPut.{link_carries}
 use Rattle.words.proofs.Becoming.{become_then}
 use Rattle.words.proofs.TestedSound.{sound_contents}
 use Rattle.multiplexer.specs.Promised.{Leaves, sent_box}
 use Rattle.multiplexer.proofs.Sounds.{facts, leaves_same, leaves}
+use Rattle.std.proofs.Common.{Result, Ok, Err}
+use Rattle.meaning.specs.declared.Link.{Link}
 
 -- The turn, as the code tests it.
 pub turn_is : (box : Box) → eqb ((box.counter + 1) % box.settings.interval) 0 ≡ turn_due box
@@ -40,36 +41,36 @@ turn_is box = rw (add-one box.counter) (sym (turn_test box.settings.interval box
 pub interval_positive : (ws : List ℕ) → sound_words ws ≡ true → 1 ≤ (contents ws).settings.interval
 interval_positive ws h = (settings_facts (contents ws).settings (facts ws h).settings_allowed_lem).interval_least
 
--- The unit sent, by what the link words say.
-module _ (box : Box) (departure : ℕ) (p : Packet) where
-  -- Where no unit is left the link is free: the answer is idle, and nothing changes.
-  pub none_sent : (left : ℕ) → left ≡ 0 → box.link ≡ link_of left p
-      → (Stepped.Idle ≡ sent_answer departure box.link) × (box ≡ sent_box box)
-  unfolding sent_answer sent_box with_link link_sent link_of
-  none_sent left z e =
-      let f : box.link ≡ free = e ∙ ap (λ n. link_of n p) z in
-      (sym (ap (sent_answer departure) f), sym (ap (with_link box) (ap link_sent f ∙ sym f)))
+-- Where the link is free the answer of the unit sent is idle, and nothing changes.
+pub none_sent : (box : Box) (departure : ℕ) → box.link ≡ Link.Free
+    → (Stepped.Idle ≡ sent_answer departure box.link) × (box ≡ sent_box box)
+unfolding sent_answer sent_box with_link link_sent
+none_sent box departure f =
+    (sym (ap (sent_answer departure) f), sym (ap (with_link box) (ap link_sent f ∙ sym f)))
 
+-- The unit sent of a packet on the link.
+module _ (box : Box) (departure : ℕ) (p : Packet) (left : ℕ) (f : box.link ≡ Link.Carries p left) where
   -- Where one unit is left it is the last: the packet departs, and the link is free.
-  pub last_sent : (left : ℕ) → left ≡ 1 → box.link ≡ link_of left p → (q : Packet)
+  pub last_sent : left ≤ 1
       → (Stepped.Departed p.serial p.connection p.arrival departure ≡ sent_answer departure box.link) ×
-      (with_link box (link_of 0 q) ≡ sent_box box)
-  unfolding sent_answer sent_box link_sent link_of
-  last_sent left z e q =
-      let f : box.link ≡ carries p 1 = e ∙ ap (λ n. link_of n p) z in
-      (sym (ap (sent_answer departure) f), sym (ap (λ l. with_link box (link_sent l)) f))
+      (with_link box Link.Free ≡ sent_box box)
+  unfolding sent_answer sent_box link_sent
+  last_sent h = (
+    sym (ap (sent_answer departure) f ∙ rw (le-leb left 1 h) refl),
+    sym
+        (ap (λ l. with_link box (link_sent l)) f ∙ ap (λ b. with_link box (cond b Link.Free (Link.Carries p (left - 1)))) (le-leb left 1 h)),
+  )
 
   -- Where more are left one is sent: one fewer is left.
-  pub one_sent : (left : ℕ) → 1 < left → box.link ≡ link_of left p
-      → (Stepped.Sending p.serial (left - 1) ≡ sent_answer departure box.link) × (with_link box (link_of (left - 1) p) ≡ sent_box box)
+  pub one_sent : 1 < left
+      → (Stepped.Sending p.serial (left - 1) ≡ sent_answer departure box.link) ×
+      (with_link box (Link.Carries p (left - 1)) ≡ sent_box box)
   unfolding sent_answer sent_box link_sent
-  one_sent left h e =
-      let f : box.link ≡ carries p left = e ∙ link_carries left p (omega arith) in
-      let g = link_carries (left - 1) p (omega arith) in (
-        sym (ap (sent_answer departure) f ∙ rw (lt-leb left 1 h) refl),
-        ap (with_link box) g ∙ sym
-            (ap (λ l. with_link box (link_sent l)) f ∙ ap (λ b. with_link box (cond b free (carries p (left - 1)))) (lt-leb left 1 h)),
-      )
+  one_sent h = (
+    sym (ap (sent_answer departure) f ∙ rw (lt-leb left 1 h) refl),
+    sym
+        (ap (λ l. with_link box (link_sent l)) f ∙ ap (λ b. with_link box (cond b Link.Free (Link.Carries p (left - 1)))) (lt-leb left 1 h)),
+  )
 
 -- The word of the counter is the slot counter.
 counter_word : (ws : List ℕ) → word ws counter_at ≡ (contents ws).counter
@@ -162,55 +163,55 @@ module _ (ws w₁ w₂ : List ℕ) (loads : Become ws w₁ (loaded_box (contents
       subst (Become ws w₃) (ap raised sent_box_lem ∙ raised_moved) three
 
 -- The three answers of a step on sound contents.
-ended_answer : (b : Box) → sound b ≡ true → last_slot ≤ b.counter → (Stepped.Refused Refusal.CounterEnded) ≡ step_answer b
+ended_answer : (b : Box) → sound b ≡ true → last_slot ≤ b.counter → (Err Refusal.CounterEnded) ≡ step_answer b
 unfolding step_answer
 ended_answer b s l = rw (s, le-leb last_slot b.counter l) refl
 
 -- Where a due turn finds a packet at tag 0, the answer is 11.
 blocked_answer : (b : Box) → sound b ≡ true → b.counter < last_slot → (turn_due b && tag_zero_waits (queues_taken b.link b.queues)) ≡ true
-    → (Stepped.Refused Refusal.TurnBlocked) ≡ step_answer b
+    → (Err Refusal.TurnBlocked) ≡ step_answer b
 unfolding step_answer
 blocked_answer b s l e = rw (s, lt-leb last_slot b.counter l, e) refl
 
 -- The answer of the unit that is sent.
 moves_answer : (b : Box) → sound b ≡ true → b.counter < last_slot → (turn_due b && tag_zero_waits (queues_taken b.link b.queues)) ≡ false
-    → sent_answer (suc b.counter) (link_taken b.link b.queues) ≡ step_answer b
+    → Ok (sent_answer (suc b.counter) (link_taken b.link b.queues)) ≡ step_answer b
 unfolding step_answer
 moves_answer b s l e = rw (s, lt-leb last_slot b.counter l, e) refl
 
 -- The answer of a step on sound words, and what it leaves.
 module _ (ws : List ℕ) (h : sound_words ws ≡ true) where
   -- The answer of the step.
-  abbrev answer : Stepped
+  abbrev answer : Result Stepped Refusal
   answer = step_answer (contents ws)
 
   -- A refusal leaves the words as they were.
-  refused : (r : Stepped) → r ≡ answer → after_step (contents ws) r ≡ contents ws
+  refused : (r : Result Stepped Refusal) → r ≡ answer → after_step (contents ws) r ≡ contents ws
       → (r ≡ answer) × Leaves ws ws (after_step (contents ws) answer)
   refused r e same = (e, subst (Leaves ws ws) (sym same ∙ ap (after_step (contents ws)) e) (leaves_same ws h))
 
   -- The step at the last slot.
   pub at_end : last_slot ≤ (contents ws).counter
-      → ((Stepped.Refused Refusal.CounterEnded) ≡ answer) × Leaves ws ws (after_step (contents ws) answer)
+      → ((Err Refusal.CounterEnded) ≡ answer) × Leaves ws ws (after_step (contents ws) answer)
   unfolding after_step
-  at_end l = refused (Stepped.Refused Refusal.CounterEnded) (ended_answer (contents ws) (sound_contents ws h) l) refl
+  at_end l = refused (Err Refusal.CounterEnded) (ended_answer (contents ws) (sound_contents ws h) l) refl
 
   -- The step that is blocked.
   pub at_block : (contents ws).counter < last_slot
       → (turn_due (contents ws) && tag_zero_waits (queues_taken (contents ws).link (contents ws).queues)) ≡ true
-      → ((Stepped.Refused Refusal.TurnBlocked) ≡ answer) × Leaves ws ws (after_step (contents ws) answer)
+      → ((Err Refusal.TurnBlocked) ≡ answer) × Leaves ws ws (after_step (contents ws) answer)
   unfolding after_step
-  at_block l b = refused (Stepped.Refused Refusal.TurnBlocked) (blocked_answer (contents ws) (sound_contents ws h) l b) refl
+  at_block l b = refused (Err Refusal.TurnBlocked) (blocked_answer (contents ws) (sound_contents ws h) l b) refl
 
   -- Where no turn is blocked, words that become those of the moved box are as promised.
   pub at_move : (after : List ℕ) (r : Stepped) → (contents ws).counter < last_slot
       → (turn_due (contents ws) && tag_zero_waits (queues_taken (contents ws).link (contents ws).queues)) ≡ false
       → r ≡ sent_answer (suc (contents ws).counter) (link_taken (contents ws).link (contents ws).queues)
       → Become ws after (moved (contents ws))
-      → (r ≡ answer) × Leaves ws after (after_step (contents ws) answer)
+      → (Ok r ≡ answer) × Leaves ws after (after_step (contents ws) answer)
   at_move after r l b e m =
       let s = sound_contents ws h in
-      let a : r ≡ answer = e ∙ moves_answer (contents ws) s l b in
+      let a : Ok r ≡ answer = ap Ok e ∙ moves_answer (contents ws) s l b in
       let k : after_step (contents ws) answer ≡ moved (contents ws) =
       ap (after_step (contents ws)) (sym (moves_answer (contents ws) s l b)) ∙
       sent_moves (contents ws) (suc (contents ws).counter) (link_taken (contents ws).link (contents ws).queues) in

@@ -1,9 +1,7 @@
 -- The public calls on words: "1 | the state is not sound" comes first, and changes nothing; on sound words the answer is that of
 -- document 01 on their contents, and the words afterwards are those of the contents afterwards.
-use Rattle.std.specs.Prelude.{ℕ, suc, ◌≤◌, ◌<◌, ◌≡◌, Bool, true, false, cond, ◌&&◌, List, length}
+use Rattle.std.specs.Prelude.{ℕ, suc, ◌≤◌, ◌<◌, ◌≡◌, Bool, true, false, cond, ◌&&◌, List, length, Result, Ok, Err}
 use Rattle.meaning.specs.declared.Refusal.{Refusal}
-use Rattle.meaning.specs.declared.Admitted.{Admitted}
-use Rattle.meaning.specs.declared.Offered.{Offered}
 use Rattle.meaning.specs.declared.Stepped.{Stepped}
 use Rattle.laws.specs.Tests.{within}
 use Rattle.meaning.specs.declared.Connection.{Connection}
@@ -24,24 +22,24 @@ unfoldable pub words_after : List ℕ → Box → List ℕ
 words_after ws box = cond (sound_words ws) (put box ws) ws
 
 -- The answer to an admission on words, sound or not.
-unfoldable pub admission : List ℕ → Connection → Admitted
-admission ws c = cond (sound_words ws) (admission_answer (contents ws) c) (Admitted.Refused Refusal.NotSound)
+unfoldable pub admission : List ℕ → Connection → Result ℕ Refusal
+admission ws c = cond (sound_words ws) (admission_answer (contents ws) c) (Err Refusal.NotSound)
 
 -- The words after an admission.
 unfoldable pub words_admitted : List ℕ → Connection → List ℕ
 words_admitted ws c = words_after ws (after_admission (contents ws) c (admission_answer (contents ws) c))
 
 -- The answer to an offer on words, sound or not.
-unfoldable pub offering : List ℕ → ℕ → ℕ → Offered
-offering ws n units = cond (sound_words ws) (offer_answer (contents ws) n units) (Offered.Refused Refusal.NotSound)
+unfoldable pub offering : List ℕ → ℕ → ℕ → Result ℕ Refusal
+offering ws n units = cond (sound_words ws) (offer_answer (contents ws) n units) (Err Refusal.NotSound)
 
 -- The words after an offer.
 unfoldable pub words_offered : List ℕ → ℕ → ℕ → List ℕ
 words_offered ws n units = words_after ws (after_offer (contents ws) n units (offer_answer (contents ws) n units))
 
 -- The answer to a step on words, sound or not.
-unfoldable pub stepping : List ℕ → Stepped
-stepping ws = cond (sound_words ws) (step_answer (contents ws)) (Stepped.Refused Refusal.NotSound)
+unfoldable pub stepping : List ℕ → Result Stepped Refusal
+stepping ws = cond (sound_words ws) (step_answer (contents ws)) (Err Refusal.NotSound)
 
 -- The words after a step.
 unfoldable pub words_stepped : List ℕ → List ℕ
@@ -104,7 +102,7 @@ pub record Acceptable (ws : List ℕ) (n units : ℕ) (row : Standing) : Type 0 
 
 -- The box once it is taken.
 abbrev pub accepted_box : Box → ℕ → ℕ → Box
-accepted_box box n units = after_offer box n units (Offered.Accepted (suc box.accepted))
+accepted_box box n units = after_offer box n units (Ok (suc box.accepted))
 
 -- It is taken: the answer is its serial, and the words are those of that box.
 abbrev pub Accepts : List ℕ → ℕ → ℕ → ℕ → List ℕ → Type 0

@@ -7,7 +7,7 @@ ghost use Rattle.words.specs.Sound.{sound_words};
 ghost use Rattle.multiplexer.specs.Promises.{AdmitPromise, AdmitSoundPromise};
 
 use admission::{Found, first_failing, rate};
-use meaning::{Admitted, Allowance, Connection, Refusal, Standing};
+use meaning::{Allowance, Connection, Refusal, Standing};
 use soundness::testing::is_sound;
 use tables::rows::{append_row, standing_count};
 use tables::settings::{class_count, cycle};
@@ -35,27 +35,27 @@ fn allowed(ws: &[u32], c: Connection) -> bool
 }
 
 // An admission on sound words.
-pub fn admit_sound(ws: &mut [u32], c: Connection) -> Admitted
+pub fn admit_sound(ws: &mut [u32], c: Connection) -> Result<u32, Refusal>
     requires { sound_words ws.old ≡ true }
     ensures { AdmitSoundPromise ws.old c result ws.new }
 {
     if !allowed(ws, c) {
-        return Admitted::Refused(Refusal::ConnectionOffRange);
+        return Err(Refusal::ConnectionOffRange);
     }
     let n = standing_count(ws);
     if 32 <= n {
-        return Admitted::Refused(Refusal::TableFull);
+        return Err(Refusal::TableFull);
     }
     let sum = rate(ws, c);
     if cycle(ws) < sum {
-        return Admitted::Refused(Refusal::RateExceeded);
+        return Err(Refusal::RateExceeded);
     }
     let found = first_failing(ws, c);
     match found {
-        Found::FailsAt(t) => Admitted::Refused(Refusal::ConditionFails(t)),
+        Found::FailsAt(t) => Err(Refusal::ConditionFails(t)),
         Found::Holds => {
             append_row(ws, fresh_row(c));
-            Admitted::Taken(n + 1)
+            Ok(n + 1)
         }
     }
 }
@@ -74,11 +74,17 @@ fn fresh_row(c: Connection) -> Standing
 }
 
 // Admission: "Admission: 1, 3, 4, 5, 6".
-pub fn admit(ws: &mut [u32], class: u32, longest: u32, burst: u32, period: u32) -> Admitted
+pub fn admit(
+    ws: &mut [u32],
+    class: u32,
+    longest: u32,
+    burst: u32,
+    period: u32,
+) -> Result<u32, Refusal>
     ensures { AdmitPromise ws.old class longest burst period result ws.new }
 {
     if !is_sound(ws) {
-        return Admitted::Refused(Refusal::NotSound);
+        return Err(Refusal::NotSound);
     }
     admit_sound(
         ws,

@@ -8,7 +8,7 @@ ghost use Rattle.multiplexer.specs.Promised.{TagOf, RowReady, Acceptable, Accept
 ghost use Rattle.multiplexer.specs.Promises.{OfferPromise, OfferSoundPromise};
 
 use envelope::{charge_record, conforming};
-use meaning::{Offered, Packet, Refusal, Standing};
+use meaning::{Packet, Refusal, Standing};
 use soundness::testing::is_sound;
 use store::lengths::waiting_count;
 use store::queues::join;
@@ -64,32 +64,32 @@ fn fits(row: Standing, slot: u32) -> bool
 }
 
 // An offer on sound words.
-pub fn offer_sound(ws: &mut [u32], n: u32, units: u32) -> Offered
+pub fn offer_sound(ws: &mut [u32], n: u32, units: u32) -> Result<u32, Refusal>
     requires { sound_words ws.old ≡ true }
     ensures { OfferSoundPromise ws.old n units result ws.new }
 {
     if !is_within(1, n, standing_count(ws)) {
-        return Offered::Refused(Refusal::NoConnection);
+        return Err(Refusal::NoConnection);
     }
     let row = read_row(ws, n);
     if !is_within(1, units, row.asked.longest) {
-        return Offered::Refused(Refusal::WrongLength);
+        return Err(Refusal::WrongLength);
     }
     if !fits(row, counter(ws)) {
-        return Offered::Refused(Refusal::NotFitting);
+        return Err(Refusal::NotFitting);
     }
     if 1024 <= waiting_count(ws) {
-        return Offered::Refused(Refusal::StoreFull);
+        return Err(Refusal::StoreFull);
     }
-    Offered::Accepted(accept(ws, n, units, row))
+    Ok(accept(ws, n, units, row))
 }
 
 // Offering a packet: "Offer: 1, 7, 8, 9, 10".
-pub fn offer(ws: &mut [u32], n: u32, units: u32) -> Offered
+pub fn offer(ws: &mut [u32], n: u32, units: u32) -> Result<u32, Refusal>
     ensures { OfferPromise ws.old n units result ws.new }
 {
     if !is_sound(ws) {
-        return Offered::Refused(Refusal::NotSound);
+        return Err(Refusal::NotSound);
     }
     offer_sound(ws, n, units)
 }

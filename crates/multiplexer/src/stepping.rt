@@ -7,7 +7,7 @@ ghost use Rattle.words.specs.Sound.{Fitting, sound_words};
 ghost use Rattle.multiplexer.specs.Promised.{turn_blocked, Movable, Moves, SendsUnit};
 ghost use Rattle.multiplexer.specs.Promises.{StepPromise, StepSoundPromise};
 
-use meaning::{Packet, Refusal, Stepped};
+use meaning::{Link, Refusal, Stepped};
 use soundness::testing::is_sound;
 use store::queues::{load_link, tag_zero_waits};
 use tables::counter::{counter, raise_counter};
@@ -47,33 +47,23 @@ fn send_unit(ws: &mut [u32], departure: u32) -> Stepped
     requires { Fitting ws.old }
     ensures { SendsUnit ws.old departure result ws.new }
 {
-    let link = read_link(ws);
-    let left = link.left;
-    if left == 0 {
+    let Link::Carries { packet, left } = read_link(ws) else {
         return Stepped::Idle;
-    }
+    };
     if left <= 1 {
-        write_link(
-            ws,
-            0,
-            Packet {
-                serial: 0,
-                connection: 0,
-                units: 0,
-                arrival: 0,
-            },
-        );
+        write_link(ws, Link::Free);
         return Stepped::Departed {
-            serial: link.packet.serial,
-            connection: link.packet.connection,
-            arrival: link.packet.arrival,
+            serial: packet.serial,
+            connection: packet.connection,
+            arrival: packet.arrival,
             departure,
         };
     }
-    write_link(ws, left - 1, link.packet);
+    let left = left - 1;
+    write_link(ws, Link::Carries { packet, left });
     Stepped::Sending {
-        serial: link.packet.serial,
-        left: left - 1,
+        serial: packet.serial,
+        left,
     }
 }
 
@@ -90,25 +80,25 @@ fn move_on(ws: &mut [u32]) -> Stepped
 }
 
 // A step on sound words.
-pub fn step_sound(ws: &mut [u32]) -> Stepped
+pub fn step_sound(ws: &mut [u32]) -> Result<Stepped, Refusal>
     requires { sound_words ws.old ≡ true }
     ensures { StepSoundPromise ws.old result ws.new }
 {
     if 4000000000 <= counter_of(ws) {
-        return Stepped::Refused(Refusal::CounterEnded);
+        return Err(Refusal::CounterEnded);
     }
     if blocked(ws) {
-        return Stepped::Refused(Refusal::TurnBlocked);
+        return Err(Refusal::TurnBlocked);
     }
-    move_on(ws)
+    Ok(move_on(ws))
 }
 
 // One step: "Step: 1, 12, 11".
-pub fn step(ws: &mut [u32]) -> Stepped
+pub fn step(ws: &mut [u32]) -> Result<Stepped, Refusal>
     ensures { StepPromise ws.old result ws.new }
 {
     if !is_sound(ws) {
-        return Stepped::Refused(Refusal::NotSound);
+        return Err(Refusal::NotSound);
     }
     step_sound(ws)
 }

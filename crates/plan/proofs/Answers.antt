@@ -1,8 +1,7 @@
 -- The five answers of reading, each from the tests that lead to it.
-use Rattle.std.proofs.Common.{◌≡◌, ℕ, ◌-◌, true, false, not, List, length, take, drop, ap, eq-eqb, ne_eqb}
+use Rattle.std.proofs.Common.{◌≡◌, ℕ, ◌-◌, true, false, not, List, length, take, drop, ap, eq-eqb, ne_eqb, Ok, Err}
 use Rattle.meaning.specs.declared.Header.{Header}
 use Rattle.meaning.specs.declared.Refusal.{Refusal}
-use Rattle.meaning.specs.declared.PlanRead.{PlanRead}
 use Rattle.meaning.specs.Plan.{words_of, sum_words, header_of, contents_of, size_wrong, sum_wrong, layout_wrong, slots_wrong, reading_answer}
 use Rattle.plan.specs.Parts.{arrivals_in}
 use Rattle.plan.proofs.LaidOut.{layout_facts, arrivals_of_rest}
@@ -20,29 +19,29 @@ sum_off ws e = ap not (ne_eqb (sum_words ws) 0 e)
 
 module _ (bytes : List ℕ) where
   -- A size that is wrong is answered first.
-  pub answer_13 : size_wrong bytes ≡ true → (PlanRead.Refused Refusal.WrongSize) ≡ reading_answer bytes
+  pub answer_13 : size_wrong bytes ≡ true → (Err Refusal.WrongSize) ≡ reading_answer bytes
   unfolding reading_answer
   answer_13 a = rw a
 
   -- Where the size is right, a sum that is wrong is answered next.
-  pub answer_14 : size_wrong bytes ≡ false → sum_wrong (words_of bytes) ≡ true → (PlanRead.Refused Refusal.WrongSum) ≡ reading_answer bytes
+  pub answer_14 : size_wrong bytes ≡ false → sum_wrong (words_of bytes) ≡ true → (Err Refusal.WrongSum) ≡ reading_answer bytes
   unfolding reading_answer
   answer_14 a b = rw (a, b)
 
   module _ (h : Header) (header : h ≡ header_of (words_of bytes)) (a : size_wrong bytes ≡ false) (b : sum_wrong (words_of bytes) ≡ false) where
     -- Where both are right, a layout that is wrong is answered next.
-    pub answer_15 : layout_wrong (length bytes) h ≡ true → (PlanRead.Refused Refusal.WrongLayout) ≡ reading_answer bytes
+    pub answer_15 : layout_wrong (length bytes) h ≡ true → (Err Refusal.WrongLayout) ≡ reading_answer bytes
     unfolding reading_answer
     answer_15 e = rw (a, b, ← header, e)
 
     -- Where the layout is right too, slots that are wrong are answered last.
     pub answer_16 : layout_wrong (length bytes) h ≡ false → slots_wrong_in bytes h ≡ true
-        → (PlanRead.Refused Refusal.WrongSlots) ≡ reading_answer bytes
+        → (Err Refusal.WrongSlots) ≡ reading_answer bytes
     unfolding reading_answer slots_wrong_in
     answer_16 e f = rw (a, b, ← header, e, f)
 
     -- Where every test passes, the header is answered.
-    pub answer_0 : layout_wrong (length bytes) h ≡ false → slots_wrong_in bytes h ≡ false → PlanRead.Good h ≡ reading_answer bytes
+    pub answer_0 : layout_wrong (length bytes) h ≡ false → slots_wrong_in bytes h ≡ false → Ok h ≡ reading_answer bytes
     unfolding reading_answer slots_wrong_in
     answer_0 e f = rw (a, b, ← header, e, f)
 

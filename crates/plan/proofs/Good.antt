@@ -1,5 +1,5 @@
 -- What is known of a plan that was read: each table is a part of its bytes, and its entries are the contents.
-use Rattle.std.proofs.Common.{◌≡◌, ℕ, ◌+◌, ◌*◌, ◌/◌, ◌<◌, ◌≤◌, Bool, true, false, List, length, get_or, take, drop, sym, refl, ap, ◌∙◌, ap₂, ⊎_elim, true≢false, mul_assoc, arith, length-drop, length-take, le-leb}
+use Rattle.std.proofs.Common.{◌≡◌, ℕ, ◌+◌, ◌*◌, ◌/◌, ◌<◌, ◌≤◌, Bool, true, false, List, length, get_or, take, drop, sym, refl, ap, ◌∙◌, ap₂, ⊎_elim, true≢false, mul_assoc, arith, length-drop, length-take, le-leb, Result, Ok, Err}
 use mathlib.Core.Bool.{and-eq-true_iff}
 use borrow.Author.Tests.{not-false}
 use Rattle.laws.specs.Tests.{bool_cases}
@@ -7,7 +7,6 @@ use Rattle.meaning.specs.declared.Connection.{Connection}
 use Rattle.meaning.specs.declared.Header.{Header}
 use Rattle.meaning.specs.declared.Table.{Table}
 use Rattle.meaning.specs.declared.Refusal.{Refusal}
-use Rattle.meaning.specs.declared.PlanRead.{PlanRead}
 use Rattle.meaning.specs.declared.Arrival.{Arrival}
 use Rattle.meaning.specs.Plan.{words_of, header_of, contents_of, size_wrong, sum_wrong, layout_wrong, slots_wrong, never_falling_from, reading_answer}
 use Rattle.meaning.specs.Plan.{table, factor_at, connection_at, arrival_at}
@@ -19,28 +18,28 @@ use Rattle.plan.proofs.Answers.{answer_13, answer_14, answer_15, answer_16, answ
 use Rattle.plan.specs.Readable.{slots_wrong_in, Readable}
 
 -- An answer that refuses.
-abbrev refuses : PlanRead → Bool
-refuses (PlanRead.Good h) = false
-refuses (PlanRead.Refused why) = true
+abbrev refuses : Result Header Refusal → Bool
+refuses (Ok h) = false
+refuses (Err why) = true
 
 -- A plan whose header was answered passed every test.
-pub read_facts : (bytes : List ℕ) (h : Header) → reading_answer bytes ≡ PlanRead.Good h → Readable bytes h
+pub read_facts : (bytes : List ℕ) (h : Header) → reading_answer bytes ≡ Ok h → Readable bytes h
 unfolding slots_wrong_in
 read_facts bytes h good =
-    ⊎_elim (λ a. other (PlanRead.Refused Refusal.WrongSize) refl (answer_13 bytes a))
+    ⊎_elim (λ a. other (Err Refusal.WrongSize) refl (answer_13 bytes a))
     (λ a.
-    ⊎_elim (λ b. other (PlanRead.Refused Refusal.WrongSum) refl (answer_14 bytes a b))
+    ⊎_elim (λ b. other (Err Refusal.WrongSum) refl (answer_14 bytes a b))
     (λ b.
     let k = header_of (words_of bytes) in
-    ⊎_elim (λ c. other (PlanRead.Refused Refusal.WrongLayout) refl (answer_15 bytes k refl a b c))
+    ⊎_elim (λ c. other (Err Refusal.WrongLayout) refl (answer_15 bytes k refl a b c))
     (λ c.
-    ⊎_elim (λ d. other (PlanRead.Refused Refusal.WrongSlots) refl (answer_16 bytes k refl a b c d)) (λ d. found a b c d)
+    ⊎_elim (λ d. other (Err Refusal.WrongSlots) refl (answer_16 bytes k refl a b c d)) (λ d. found a b c d)
     (bool_cases (slots_wrong_in bytes k)))
     (bool_cases (layout_wrong (length bytes) k)))
     (bool_cases (sum_wrong (words_of bytes))))
     (bool_cases (size_wrong bytes))
   where
-    other : (r : PlanRead) → refuses r ≡ true → r ≡ reading_answer bytes → Readable bytes h
+    other : (r : Result Header Refusal) → refuses r ≡ true → r ≡ reading_answer bytes → Readable bytes h
     other r t e = absurd (true≢false (sym t ∙ ap refuses (e ∙ good)))
 
     found :
@@ -49,7 +48,7 @@ read_facts bytes h good =
         slots_wrong_in bytes (header_of (words_of bytes)) ≡ false → Readable bytes h
     found a b c d =
         let k = header_of (words_of bytes) in
-        let same : PlanRead.Good k ≡ PlanRead.Good h = answer_0 bytes k refl a b c d ∙ good in
+        let same : Ok k ≡ Ok h = answer_0 bytes k refl a b c d ∙ good in
         let e : h ≡ k = cc in
         record {
           header = e;
@@ -60,7 +59,7 @@ read_facts bytes h good =
         }
 
 -- A plan that passes every test has its header answered.
-pub read_back : (bytes : List ℕ) (h : Header) → Readable bytes h → reading_answer bytes ≡ PlanRead.Good h
+pub read_back : (bytes : List ℕ) (h : Header) → Readable bytes h → reading_answer bytes ≡ Ok h
 unfolding slots_wrong_in
 read_back bytes h r =
     sym (answer_0 bytes h r.header r.sized r.summed (layout_right (length bytes) h r.laid) r.slots)

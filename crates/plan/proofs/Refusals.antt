@@ -1,9 +1,8 @@
 -- "Given exactly when": each number of reading is answered in the one case that document 01 gives it, and in no other.
-use Rattle.std.proofs.Common.{◌≡◌, ℕ, Bool, true, false, cond, List, sym, refl, ◌∙◌, arith}
+use Rattle.std.proofs.Common.{◌≡◌, ℕ, Bool, true, false, cond, List, sym, refl, ◌∙◌, arith, Result, Ok, Err}
 use Rattle.meaning.specs.declared.Header.{Header}
 use Rattle.meaning.specs.Answers.{plan_read, refusal, refusal_number}
 use Rattle.meaning.specs.declared.Refusal.{Refusal}
-use Rattle.meaning.specs.declared.PlanRead.{PlanRead}
 use Rattle.meaning.specs.Plan.{words_of, header_of, size_wrong, sum_wrong, reading_answer}
 use Rattle.plan.specs.FirstRefusal.{reading_of, reading_number, layout_off, slots_off}
 
@@ -48,10 +47,10 @@ only_0 false false false true e = absurd (omega arith)
 only_0 false false false false e = (refl, refl, refl, refl)
 
 -- The answer of reading, by its four tests in their order.
-abbrev reading_by : Bool → Bool → Bool → Bool → Header → PlanRead
+abbrev reading_by : Bool → Bool → Bool → Bool → Header → Result Header Refusal
 reading_by a b c d h =
-    cond a (PlanRead.Refused Refusal.WrongSize) (cond b (PlanRead.Refused Refusal.WrongSum)
-    (cond c (PlanRead.Refused Refusal.WrongLayout) (cond d (PlanRead.Refused Refusal.WrongSlots) (PlanRead.Good h))))
+    cond a (Err Refusal.WrongSize) (cond b (Err Refusal.WrongSum)
+    (cond c (Err Refusal.WrongLayout) (cond d (Err Refusal.WrongSlots) (Ok h))))
 
 -- The number of an answer of reading is that of the first test that refuses.
 read_number :

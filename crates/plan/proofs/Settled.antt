@@ -1,18 +1,19 @@
 -- Answers that satisfy one promise are the same, for each public function.
-use Rattle.std.proofs.Common.{◌≡◌, ℕ, Bool, List, sym, ◌∙◌}
+use Rattle.std.proofs.Common.{◌≡◌, ℕ, Bool, List, sym, ◌∙◌, Result}
 use Rattle.meaning.specs.declared.Table.{Table}
-use Rattle.meaning.specs.declared.PlanRead.{PlanRead}
 use Rattle.meaning.specs.Plan.{counts_allowed, words_of, factor_at, connection_at, arrival_at, reading_answer}
 use Rattle.meaning.specs.declared.Connection.{Connection}
 use Rattle.meaning.specs.declared.Arrival.{Arrival}
 use Rattle.plan.specs.Parts.{part_of, arrivals_in, boundary, stretch_of}
+use Rattle.meaning.specs.declared.Refusal.{Refusal}
+use Rattle.meaning.specs.declared.Header.{Header}
 
 -- Two answers that equal one thing are the same.
 one : {A : Type 0} {a b c : A} → a ≡ c → b ≡ c → a ≡ b
 one p q = p ∙ sym q
 
 -- Two answers of `read` on the same bytes are the same.
-pub read_settled : (bytes : List ℕ) (r s : PlanRead) → r ≡ reading_answer bytes → s ≡ reading_answer bytes → r ≡ s
+pub read_settled : (bytes : List ℕ) (r s : Result Header Refusal) → r ≡ reading_answer bytes → s ≡ reading_answer bytes → r ≡ s
 read_settled bytes r s = one
 
 -- Two answers of `counts_allowed` are the same.

@@ -4,7 +4,7 @@ ghost use Rattle.meaning.specs.Plan.{reading_answer, size_wrong, counts_allowed,
 ghost use Rattle.plan.specs.Parts.{arrivals_in, table_of};
 
 use super::words::{number, sum_of_bytes, word};
-use meaning::{Header, PlanRead, Refusal, Table};
+use meaning::{Header, Refusal, Table};
 
 // "plan under 40 bytes, above 65,536, not a multiple of 4, or word 0 differs from its size".
 fn size_wrong(plan: &[u8]) -> bool
@@ -106,23 +106,23 @@ fn slots_wrong(arrivals: &[u8]) -> bool
 }
 
 // Reads a plan: "The whole sum is tested before any later field is believed."
-pub fn read(plan: &[u8]) -> PlanRead
+pub fn read(plan: &[u8]) -> Result<Header, Refusal>
     ensures { result ≡ reading_answer plan.now }
 {
     if size_wrong(plan) {
-        return PlanRead::Refused(Refusal::WrongSize);
+        return Err(Refusal::WrongSize);
     }
     if sum_of_bytes(plan) != 0 {
-        return PlanRead::Refused(Refusal::WrongSum);
+        return Err(Refusal::WrongSum);
     }
     let h = header(plan);
     if layout_wrong(plan.len(), h) {
-        return PlanRead::Refused(Refusal::WrongLayout);
+        return Err(Refusal::WrongLayout);
     }
     let arrivals = h.arrivals;
     let start = arrivals.start;
     if slots_wrong(&plan[start..]) {
-        return PlanRead::Refused(Refusal::WrongSlots);
+        return Err(Refusal::WrongSlots);
     }
-    PlanRead::Good(h)
+    Ok(h)
 }

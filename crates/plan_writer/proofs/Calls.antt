@@ -1,12 +1,10 @@
 -- Both round trips over the calls: what writing leaves is read back, and what was read is written again.
-use Rattle.std.proofs.Common.{◌≡◌, ℕ, zero, suc, ◌+◌, ◌/◌, ◌^◌, ◌<◌, ◌≤◌, Bool, true, false, List, [], ◌∷◌, ◌++◌, map, length, get_or, take, drop, sym, refl, ap, ◌∙◌, ap₂, ⊎_elim, true≢false, append-nil, zero-add, arith, take_at}
+use Rattle.std.proofs.Common.{◌≡◌, ℕ, zero, suc, ◌+◌, ◌/◌, ◌^◌, ◌<◌, ◌≤◌, Bool, true, false, List, [], ◌∷◌, ◌++◌, map, length, get_or, take, drop, sym, refl, ap, ◌∙◌, ap₂, ⊎_elim, true≢false, append-nil, zero-add, arith, take_at, Result, Ok, Err}
 use mathlib.Core.List.{flatten}
 use native.Mathlib.Decide.{dec_le}
 use Rattle.laws.specs.Tests.{bool_cases}
 use Rattle.meaning.specs.declared.Header.{Header}
 use Rattle.meaning.specs.declared.Refusal.{Refusal}
-use Rattle.meaning.specs.declared.PlanWritten.{PlanWritten}
-use Rattle.meaning.specs.declared.PlanRead.{PlanRead}
 use Rattle.meaning.specs.Plan.{Plan, Lent, lent_plan, lent_wrong, words_of, header_of, contents_of, table, factor_at, connection_at, arrival_at}
 use Rattle.meaning.specs.Plan.{connection_words, arrival_words, plan_words, plan_bytes, size_of, slots_wrong, reading_answer, writing_answer}
 use Rattle.plan_writer.specs.Bytes.{pasted}
@@ -29,28 +27,28 @@ both_fit (a ∷ l) m p q zero = p zero
 both_fit (a ∷ l) m p q (suc i) = both_fit l m (λ j. p (suc j)) q i
 
 -- An answer that refuses.
-abbrev refuses : PlanWritten → Bool
-refuses (PlanWritten.Written n) = false
-refuses (PlanWritten.Refused why) = true
+abbrev refuses : Result ℕ Refusal → Bool
+refuses (Ok n) = false
+refuses (Err why) = true
 
 -- Lent tables whose size was answered are right, and there was room for them.
-pub write_facts : (l : Lent) (buf : List ℕ) (size : ℕ) → writing_answer l (length buf) ≡ PlanWritten.Written size → Taken l (length buf) size
+pub write_facts : (l : Lent) (buf : List ℕ) (size : ℕ) → writing_answer l (length buf) ≡ Ok size → Taken l (length buf) size
 write_facts l buf size done =
-    ⊎_elim (λ a. other (PlanWritten.Refused Refusal.WrongLayout) refl (answer_15 l buf a).0)
+    ⊎_elim (λ a. other (Err Refusal.WrongLayout) refl (answer_15 l buf a).0)
     (λ a.
-    ⊎_elim (λ b. other (PlanWritten.Refused Refusal.WrongSlots) refl (answer_16 l buf a b).0)
+    ⊎_elim (λ b. other (Err Refusal.WrongSlots) refl (answer_16 l buf a b).0)
     (λ b. room a b (dec_le (size_of (lent_plan l)) (length buf)))
     (bool_cases (slots_wrong (lent_plan l).arrivals)))
     (bool_cases (lent_wrong l))
   where
-    other : (r : PlanWritten) → refuses r ≡ true → r ≡ writing_answer l (length buf) → Taken l (length buf) size
+    other : (r : Result ℕ Refusal) → refuses r ≡ true → r ≡ writing_answer l (length buf) → Taken l (length buf) size
     other r t e = absurd (true≢false (sym t ∙ ap refuses (e ∙ done)))
 
     room :
         lent_wrong l ≡ false → slots_wrong (lent_plan l).arrivals ≡ false → Dec (size_of (lent_plan l) ≤ length buf) → Taken l (length buf) size
-    room a b (no h) = other (PlanWritten.Refused Refusal.TooShort) refl (answer_17 l buf a b (omega arith)).0
+    room a b (no h) = other (Err Refusal.TooShort) refl (answer_17 l buf a b (omega arith)).0
     room a b (yes h) =
-        let same : PlanWritten.Written (size_of (lent_plan l)) ≡ PlanWritten.Written size =
+        let same : Ok (size_of (lent_plan l)) ≡ Ok size =
         (answer_0 l buf a b (size_of (lent_plan l)) _ refl h refl).0 ∙ done in
         let e : size ≡ size_of (lent_plan l) = cc in
         record { right = a; slots_right = b; size_is = e; room_for = omega arith }
@@ -74,8 +72,8 @@ lent_writable l fits right slots =
 
 -- "reading what was written gives the contents"
 pub write_then_read :
-    (l : Lent) (buf : List ℕ) (size : ℕ) → Fits l → writing_answer l (length buf) ≡ PlanWritten.Written size →
-    (reading_answer (take size (bytes_after l buf)) ≡ PlanRead.Good (header_of (plan_words (lent_plan l)))) ×
+    (l : Lent) (buf : List ℕ) (size : ℕ) → Fits l → writing_answer l (length buf) ≡ Ok size →
+    (reading_answer (take size (bytes_after l buf)) ≡ Ok (header_of (plan_words (lent_plan l)))) ×
     (contents_of (words_of (take size (bytes_after l buf))) (header_of (plan_words (lent_plan l))) ≡ lent_plan l)
 unfolding bytes_after bytes_by
 write_then_read l buf size fits done =
@@ -118,8 +116,8 @@ lent_right plan f k n =
 -- "writing what was read gives the bytes"
 pub read_then_write :
     (bytes : List ℕ) (h : Header) (buf : List ℕ) → ((i : ℕ) → get_or bytes i 0 < 256) →
-    reading_answer bytes ≡ PlanRead.Good h → length bytes ≤ length buf →
-    (writing_answer (lent_of (contents_of (words_of bytes) h)) (length buf) ≡ PlanWritten.Written (length bytes)) ×
+    reading_answer bytes ≡ Ok h → length bytes ≤ length buf →
+    (writing_answer (lent_of (contents_of (words_of bytes) h)) (length buf) ≡ Ok (length bytes)) ×
     (bytes_after (lent_of (contents_of (words_of bytes) h)) buf ≡ bytes ++ drop (length bytes) buf)
 unfolding contents_of pasted
 read_then_write bytes h buf small good room =

@@ -1,15 +1,14 @@
 -- "Given exactly when": each number of writing is answered in the one case that document 01 gives it, and in no other.
-use Rattle.std.proofs.Common.{◌≡◌, ℕ, Bool, true, false, cond, ltb, sym, refl, ◌∙◌, arith}
+use Rattle.std.proofs.Common.{◌≡◌, ℕ, Bool, true, false, cond, ltb, sym, refl, ◌∙◌, arith, Result, Ok, Err}
 use Rattle.meaning.specs.Answers.{plan_written, refusal, refusal_number}
 use Rattle.meaning.specs.declared.Refusal.{Refusal}
-use Rattle.meaning.specs.declared.PlanWritten.{PlanWritten}
 use Rattle.meaning.specs.Plan.{Lent, lent_plan, lent_wrong, size_of, slots_wrong, writing_answer}
 use Rattle.plan_writer.specs.FirstRefusal.{writing_of, writing_number}
 
 -- The answer of writing, by its three tests in their order.
-abbrev writing_by : Bool → Bool → Bool → ℕ → PlanWritten
-writing_by a b c n = cond a (PlanWritten.Refused Refusal.WrongLayout)
-    (cond b (PlanWritten.Refused Refusal.WrongSlots) (cond c (PlanWritten.Refused Refusal.TooShort) (PlanWritten.Written n)))
+abbrev writing_by : Bool → Bool → Bool → ℕ → Result ℕ Refusal
+writing_by a b c n = cond a (Err Refusal.WrongLayout)
+    (cond b (Err Refusal.WrongSlots) (cond c (Err Refusal.TooShort) (Ok n)))
 
 -- The number of an answer of writing is that of the first test that refuses.
 written_number :

@@ -1,8 +1,7 @@
 -- Written and read back: the same contents.
-use Rattle.std.proofs.Common.{◌≡◌, ℕ, zero, suc, ◌+◌, ◌-◌, ◌*◌, ◌/◌, ◌%◌, ◌^◌, ◌<◌, ◌≤◌, false, [], ◌∷◌, ◌++◌, map, length, get_or, take, sym, refl, ap, ◌∙◌, append_assoc, append-nil, mod-lt, arith, length-append, get_or-drop, take_at, get_or-append-add, le-ltb, eq-eqb}
+use Rattle.std.proofs.Common.{◌≡◌, ℕ, zero, suc, ◌+◌, ◌-◌, ◌*◌, ◌/◌, ◌%◌, ◌^◌, ◌<◌, ◌≤◌, false, [], ◌∷◌, ◌++◌, map, length, get_or, take, sym, refl, ap, ◌∙◌, append_assoc, append-nil, mod-lt, arith, length-append, get_or-drop, take_at, get_or-append-add, le-ltb, eq-eqb, Ok}
 use mathlib.Core.List.{flatten}
 use Rattle.laws.specs.Sums.{sum_of}
-use Rattle.meaning.specs.declared.PlanRead.{PlanRead}
 use Rattle.meaning.specs.Plan.{Plan, words_of, header_of, contents_of, table, factor_at, connection_at, arrival_at, connection_words, arrival_words}
 use Rattle.meaning.specs.Plan.{table_words, header_words, sum_word, sum_words, plan_words, plan_bytes, size_of, size_wrong, reading_answer}
 use Rattle.plan_writer.specs.Bytes.{bytes_of_words}
@@ -167,7 +166,7 @@ written_reads plan w =
 -- "written and read back: same contents"
 pub written_and_read :
     (plan : Plan) → Writable plan →
-    (reading_answer (plan_bytes plan) ≡ PlanRead.Good (header_of (plan_words plan))) ×
+    (reading_answer (plan_bytes plan) ≡ Ok (header_of (plan_words plan))) ×
     (contents_of (words_of (plan_bytes plan)) (header_of (plan_words plan)) ≡ plan)
 written_and_read plan w =
     (read_back (plan_bytes plan) (header_of (plan_words plan)) (written_reads plan w), rw (words_back plan w) (contents_back plan))

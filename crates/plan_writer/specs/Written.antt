@@ -1,8 +1,8 @@
 -- What the writer is lent, and what it leaves in the buffer that it is lent.
-use Rattle.std.specs.Prelude.{◌≡◌, ℕ, ◌+◌, ◌*◌, ◌/◌, ◌%◌, ◌≤◌, Bool, not, ◌&&◌, List, [], ◌∷◌, ◌++◌, length, drop, ◌==◌}
-use Rattle.meaning.specs.declared.PlanWritten.{PlanWritten}
+use Rattle.std.specs.Prelude.{◌≡◌, ℕ, ◌+◌, ◌*◌, ◌/◌, ◌%◌, ◌≤◌, Bool, not, ◌&&◌, List, [], ◌∷◌, ◌++◌, length, drop, ◌==◌, Result, Ok, Err}
 use Rattle.meaning.specs.declared.Arrival.{Arrival}
 use Rattle.meaning.specs.Plan.{Lent, lent_plan, counts_allowed, table, arrival_at, plan_bytes, writing_answer}
+use Rattle.meaning.specs.declared.Refusal.{Refusal}
 
 -- The arguments of the writer as one thing.
 abbrev pub lent : ℕ → ℕ → List ℕ → List ℕ → List ℕ → Lent
@@ -45,9 +45,9 @@ unfoldable pub arrivals_of_words : List ℕ → List Arrival
 arrivals_of_words ws = table arrival_at 3 ws 0 (length ws / 3)
 
 -- The buffer after an answer: the bytes of the plan and then what stood behind them, or all as it was.
-unfoldable pub bytes_by : PlanWritten → Lent → List ℕ → List ℕ
-bytes_by (PlanWritten.Written size) l buf = plan_bytes (lent_plan l) ++ drop size buf
-bytes_by (PlanWritten.Refused why) l buf = buf
+unfoldable pub bytes_by : Result ℕ Refusal → Lent → List ℕ → List ℕ
+bytes_by (Ok size) l buf = plan_bytes (lent_plan l) ++ drop size buf
+bytes_by (Err why) l buf = buf
 
 -- The buffer after writing.
 unfoldable pub bytes_after : Lent → List ℕ → List ℕ

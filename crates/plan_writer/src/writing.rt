@@ -5,7 +5,7 @@ ghost use Rattle.plan_writer.specs.Written.{lent, Lengths, lent_size, lengths_wr
 ghost use Rattle.plan_writer.specs.Bytes.{pasted};
 
 use super::words::{add_words, put_words};
-use meaning::{PlanWritten, Refusal};
+use meaning::Refusal;
 use plan::reading::counts_allowed;
 
 // Counts that are too large, or tables that are not whole entries.
@@ -90,7 +90,7 @@ pub fn write(
     connections: &[u32],
     arrivals: &[u32],
     buf: &mut [u8],
-) -> PlanWritten
+) -> Result<usize, Refusal>
     ensures answer { result ≡ writing_answer
         (lent interval cycle factors.now connections.now arrivals.now)
         (length buf.old) }
@@ -99,15 +99,15 @@ pub fn write(
         buf.old }
 {
     if lent_wrong(factors.len(), connections.len(), arrivals.len()) {
-        return PlanWritten::Refused(Refusal::WrongLayout);
+        return Err(Refusal::WrongLayout);
     }
     if slots_wrong(arrivals) {
-        return PlanWritten::Refused(Refusal::WrongSlots);
+        return Err(Refusal::WrongSlots);
     }
     let size = 40 + 4 * factors.len() + 4 * connections.len() + 4 * arrivals.len();
     if buf.len() < size {
-        return PlanWritten::Refused(Refusal::TooShort);
+        return Err(Refusal::TooShort);
     }
     put_plan(interval, cycle, factors, connections, arrivals, buf);
-    PlanWritten::Written(size)
+    Ok(size)
 }

@@ -11,34 +11,25 @@ use Rattle.laws.specs.Tests.{every}
 use Rattle.meaning.specs.Numbers.{largest_factor}
 use Rattle.meaning.specs.Queues.{lowest_head, without_lowest_head}
 use Rattle.meaning.specs.declared.Packet.{Packet}
-use Rattle.meaning.specs.Box.{Box, Link, free, carries, packet_kept, waiting}
+use Rattle.meaning.specs.Box.{Box, packet_kept, waiting}
 use Rattle.meaning.specs.Step.{loaded, link_taken, queues_taken}
 use Rattle.meaning.proofs.Facts.{packet_facts}
 use Rattle.words.specs.Places.{word, lengths_below, start_of, place_of, left_at, link_at, lengths_at, packets_at}
-use Rattle.words.specs.Contents.{contents, settings_at, packet_at, no_packet, link_of, turns_at, queue_at, queues_at}
+use Rattle.words.specs.Contents.{contents, settings_at, packet_at, no_packet, turns_at, queue_at, queues_at}
 use Rattle.words.specs.Sound.{Fitting, sound_words}
 use Rattle.words.specs.Changes.{Become}
 use Rattle.store.specs.StoreChanges.{with_queues, loaded_box, lowest_tag}
 use Rattle.tables.specs.TableChanges.{with_link}
 use Rattle.words.proofs.Rotation.{place_below}
 use Rattle.words.proofs.TableReads.{lengths_most}
-use Rattle.words.proofs.ContentsPut.{link_carries}
 use Rattle.words.proofs.Counts.{sound_fitting}
 use Rattle.words.proofs.TestedSound.{sound_queues}
 use Rattle.words.proofs.Same.{queue_tagged_at, waiting_length}
 use Rattle.store.proofs.QueueLaws.{take_sets, take_none, take_head}
+use Rattle.tables.proofs.LinkWritten.{link_free, link_busy}
 use Rattle.store.proofs.Shift.{start_is}
 use Rattle.words.proofs.Becoming.{become_then}
-
--- Where no units are left, the link is free.
-pub link_free : (ws : List ℕ) → word ws left_at ≡ 0 → (contents ws).link ≡ free
-unfolding contents link_of
-link_free ws e = ap (λ n. link_of n (packet_at ws link_at)) e
-
--- Where units are left, the link carries the packet at its place.
-pub link_busy : (ws : List ℕ) → (word ws left_at ≡ 0 → ⊥) → (contents ws).link ≡ carries (packet_at ws link_at) (word ws left_at)
-unfolding contents
-link_busy ws e = link_carries (word ws left_at) (packet_at ws link_at) (omega arith)
+use Rattle.meaning.specs.declared.Link.{Link}
 
 -- There are rP + 1 queues.
 tags : (ws : List ℕ) → length (contents ws).queues ≡ suc (largest_factor (settings_at ws))
@@ -70,12 +61,12 @@ first_read ws P w =
     get_or_series (packet_at ws) 4 (start_of ws P) (word ws (lengths_at + P)) 0 no_packet (omega arith) ∙ ap (packet_at ws) z)
 
 -- A free link takes the lowest head with all its units to send.
-taken_link : (l : Link) (qs : List (List Packet)) (p : Packet) → l ≡ free → lowest_head qs ≡ some p → link_taken l qs ≡ carries p p.units
+taken_link : (l : Link) (qs : List (List Packet)) (p : Packet) → l ≡ Link.Free → lowest_head qs ≡ some p → link_taken l qs ≡ Link.Carries p p.units
 unfolding link_taken loaded
 taken_link l qs p e h = ap (λ l. link_taken l qs) e ∙ ap loaded h
 
 -- A free link leaves the queues without the lowest head.
-taken_queues : (l : Link) (qs : List (List Packet)) → l ≡ free → queues_taken l qs ≡ without_lowest_head qs
+taken_queues : (l : Link) (qs : List (List Packet)) → l ≡ Link.Free → queues_taken l qs ≡ without_lowest_head qs
 unfolding queues_taken
 taken_queues l qs e = ap (λ l. queues_taken l qs) e
 
@@ -103,12 +94,12 @@ same_box box a b =
     sym (ap (λ q. with_link (with_queues box q) (link_taken box.link box.queues)) a ∙ ap (with_link (with_queues box box.queues)) b)
 
 -- A box whose link carries a packet is its own loaded box.
-carried_box : (box : Box) (p : Packet) (left : ℕ) → box.link ≡ carries p left → box ≡ loaded_box box
+carried_box : (box : Box) (p : Packet) (left : ℕ) → box.link ≡ Link.Carries p left → box ≡ loaded_box box
 unfolding link_taken queues_taken
 carried_box box p left e = same_box box (ap (λ l. queues_taken l box.queues) e) (ap (λ l. link_taken l box.queues) e ∙ sym e)
 
 -- A box with a free link and nothing waiting is its own loaded box.
-idle_box : (box : Box) → box.link ≡ free → length box.queues ≤ lowest_tag box.queues → box ≡ loaded_box box
+idle_box : (box : Box) → box.link ≡ Link.Free → length box.queues ≤ lowest_tag box.queues → box ≡ loaded_box box
 unfolding link_taken queues_taken loaded
 idle_box box e h =
     (let t = take_none box.queues h in
@@ -155,7 +146,7 @@ idle_become ws k e h = unchanged ws k (idle_box (contents ws) (link_free ws e) (
 pub loaded_become : (ws mid after : List ℕ) (tag : ℕ) (p : Packet) → sound_words ws ≡ true → tag ≡ lowest_tag (contents ws).queues
     → tag ≤ largest_factor (settings_at ws) → word ws left_at ≡ 0 → p ≡ packet_at ws (start_of ws (place_of (turns_at ws) tag))
     → Become ws mid (with_queues (contents ws) (set (contents ws).queues tag (drop 1 (get_or (contents ws).queues tag []))))
-    → Become mid after (with_link (contents mid) (link_of p.units p))
+    → Become mid after (with_link (contents mid) (Link.Carries p p.units))
     → Become ws after (loaded_box (contents ws))
 loaded_become ws mid after tag p e t h f a b c =
     (let qs = (contents ws).queues in
@@ -165,13 +156,11 @@ loaded_become ws mid after tag p e t h f a b c =
     let free_link = link_free ws f in
     let Q = set qs tag (drop 1 (get_or qs tag [])) in
     let q : without_lowest_head qs ≡ Q = take_sets qs (omega arith) ∙ ap (λ n. set qs n (drop 1 (get_or qs n []))) (sym t) in
-    let u : 1 ≤ p.units = rw a k.units in
     let head : lowest_head qs ≡ some p = (take_head qs no_packet (omega arith)).0 ∙ ap (λ n. some (get_or (get_or qs n []) 0 no_packet)) (sym t) ∙
     ap (λ l. some (get_or l 0 no_packet)) (queue_tagged_at ws tag h) ∙ ap some (first_read ws P k.waits ∙ sym a) in
-    let l : link_of p.units p ≡ link_taken (contents ws).link qs = link_carries p.units p u ∙
-    sym (taken_link (contents ws).link qs p free_link head) in
-    let whole : with_link (contents mid) (link_of p.units p) ≡ loaded_box (contents ws) =
-    ap (λ x. with_link x (link_of p.units p)) b.stands_for ∙ ap (with_link (with_queues (contents ws) Q)) l ∙
+    let l : Link.Carries p p.units ≡ link_taken (contents ws).link qs = sym (taken_link (contents ws).link qs p free_link head) in
+    let whole : with_link (contents mid) (Link.Carries p p.units) ≡ loaded_box (contents ws) =
+    ap (λ x. with_link x (Link.Carries p p.units)) b.stands_for ∙ ap (with_link (with_queues (contents ws) Q)) l ∙
     loaded_is ws Q (sym (taken_queues (contents ws).link qs free_link ∙ q)) in
     become_then ws mid after (with_queues (contents ws) Q) (loaded_box (contents ws)) b (rw whole at c)
     (same_waiting ws Q (sym (taken_queues (contents ws).link qs free_link ∙ q))))

@@ -11,7 +11,7 @@ ghost use Rattle.store.specs.StoreChanges.{loaded_box, LowestTag, joined_at, Hea
 
 use crate::lengths::lengths_below;
 use crate::moves::{move_down, move_up};
-use meaning::Packet;
+use meaning::{Link, Packet};
 use tables::link::write_link;
 use tables::settings::{largest_factor, turns};
 use words::numbers::wide;
@@ -95,7 +95,13 @@ fn load_from(ws: &mut [u32], tag: usize)
     let at = PACKETS_AT + 4 * lengths_below(ws, place_of(ws, tag));
     let head = read_packet(ws, at);
     behead(ws, tag);
-    write_link(ws, head.units, head);
+    write_link(
+        ws,
+        Link::Carries {
+            packet: head,
+            left: head.units,
+        },
+    );
 }
 
 // If the link is free, the head of the lowest-tagged queue that has a packet goes onto it.

@@ -7,7 +7,6 @@ use lib.ListN.{length}
 use lib.Dec.{ltb}
 use borrow.Author.Tests.{ltb-false}
 use Rattle.meaning.specs.declared.Refusal.{Refusal}
-use Rattle.meaning.specs.declared.Opened.{Opened}
 use Rattle.meaning.specs.Numbers.{Settings, settings_allowed}
 use Rattle.meaning.specs.Calls.{new_box, opening_answer}
 use Rattle.meaning.proofs.KeepsSound.{new_box_sound}
@@ -16,24 +15,25 @@ use Rattle.words.specs.Contents.{contents, put}
 use Rattle.words.specs.Sound.{sound_words}
 use Rattle.tables.specs.Opening.{opened, after_opening}
 use Rattle.words.proofs.Counts.{sound_put, sound_contents_put}
+use Rattle.std.proofs.Common.{Result, Ok, Err}
 
 -- The answer is 0.
-abbrev is_done : Opened → Bool
-is_done Opened.Done = true
-is_done (Opened.Refused why) = false
+abbrev is_done : Result Unit Refusal → Bool
+is_done (Ok tt) = true
+is_done (Err why) = false
 
 -- An opening that is answered 0 had settings that are allowed and words enough.
-done_says : (set : Settings) (size lent : ℕ) → opening_answer size lent set ≡ Opened.Done
+done_says : (set : Settings) (size lent : ℕ) → opening_answer size lent set ≡ Ok (tt {0})
     → (settings_allowed set ≡ true) × (ltb lent size ≡ false)
 unfolding opening_answer
 done_says set size lent = go (settings_allowed set) (ltb lent size)
   where
-    go : (a b : Bool) → cond (not a) (Opened.Refused Refusal.SettingsOffRange) (cond b (Opened.Refused Refusal.TooShort) Opened.Done) ≡ Opened.Done → (a ≡ true) × (b ≡ false)
+    go : (a b : Bool) → cond (not a) (Err Refusal.SettingsOffRange) (cond b (Err Refusal.TooShort) (Ok (tt {0}))) ≡ Ok (tt {0}) → (a ≡ true) × (b ≡ false)
     go true false e = (refl, refl)
     go true true e = absurd (true≢false (sym (ap is_done e)))
     go false b e = absurd (true≢false (sym (ap is_done e)))
 
-module _ (set : Settings) (ws : List ℕ) (done : (opened set ws).0 ≡ Opened.Done) where
+module _ (set : Settings) (ws : List ℕ) (done : (opened set ws).0 ≡ Ok (tt {0})) where
   -- Its settings are allowed.
   pub opened_allowed : settings_allowed set ≡ true
   unfolding opened

@@ -3,11 +3,12 @@ use Rattle.std.specs.Prelude.{ℕ, suc, ◌+◌, ◌-◌, ◌≤◌, ◌<◌, �
 use Rattle.meaning.specs.Queues.{tag_zero_waits, turn_at, turned}
 use Rattle.meaning.specs.declared.Allowance.{Allowance}
 use Rattle.meaning.specs.declared.Standing.{Standing}
-use Rattle.meaning.specs.Box.{Box, Link, connection}
+use Rattle.meaning.specs.Box.{Box, connection}
 use Rattle.meaning.specs.Calls.{allowance, with_standing}
 use Rattle.words.specs.Places.{word, interval_at, counter_at}
 use Rattle.words.specs.Contents.{contents, standing_at}
 use Rattle.words.specs.Sound.{Fitting}
+use Rattle.meaning.specs.declared.Link.{Link}
 
 -- The box with this link.
 unfoldable pub with_link : Box → Link → Box
@@ -20,6 +21,11 @@ with_link box l =
       link = l;
       queues = box.queues;
     }
+
+-- A link that can be written: where it carries a packet, units of it are left.
+abbrev pub Sendable : Link → Type 0
+Sendable Link.Free = Unit {0}
+Sendable (Link.Carries p left) = 1 ≤ left
 
 -- The box with this count of accepted packets.
 unfoldable pub with_accepted : Box → ℕ → Box

@@ -1,37 +1,42 @@
 // The link.
 ghost use Rattle.std.specs.Prelude.{◌≡◌};
-ghost use Rattle.words.specs.Contents.{contents, link_of, no_packet};
+ghost use Rattle.words.specs.Contents.{contents};
 ghost use Rattle.words.specs.Sound.{Fitting};
 ghost use Rattle.words.specs.Changes.{Become};
-ghost use Rattle.tables.specs.TableChanges.{with_link};
+ghost use Rattle.tables.specs.TableChanges.{with_link, Sendable};
 
-use meaning::Packet;
+use meaning::{Link, Packet};
 use words::packets::{read_packet, write_packet};
 use words::places::{LEFT_AT, LINK_AT};
 
-// The link: units left, 0 where it is free, and the packet on it.
-#[derive(Clone, Copy)]
-pub struct Carried {
-    pub left: u32,
-    pub packet: Packet,
-}
-
-// The link.
-pub fn read_link(ws: &[u32]) -> Carried
+// The link: free where no units are left.
+pub fn read_link(ws: &[u32]) -> Link
     requires { Fitting ws.now }
-    ensures { (contents ws.now).link ≡ link_of result.left result.packet }
+    ensures { result ≡ (contents ws.now).link }
 {
-    Carried {
-        left: ws[LEFT_AT],
+    let left = ws[LEFT_AT];
+    if left == 0 {
+        return Link::Free;
+    }
+    Link::Carries {
         packet: read_packet(ws, LINK_AT),
+        left,
     }
 }
 
 // The link is written: units left and the packet, or five zeros for a free link.
-pub fn write_link(ws: &mut [u32], left: u32, p: Packet)
-    requires { Fitting ws.old × (left ≡ 0 → p ≡ no_packet) }
-    ensures { Become ws.old ws.new (with_link (contents ws.old) (link_of left p)) }
+pub fn write_link(ws: &mut [u32], link: Link)
+    requires { Fitting ws.old × Sendable link }
+    ensures { Become ws.old ws.new (with_link (contents ws.old) link) }
 {
-    ws[LEFT_AT] = left;
-    write_packet(ws, LINK_AT, p);
+    match link {
+        Link::Free => {
+            ws[LEFT_AT] = 0;
+            write_packet(ws, LINK_AT, Packet::default());
+        }
+        Link::Carries { packet, left } => {
+            ws[LEFT_AT] = left;
+            write_packet(ws, LINK_AT, packet);
+        }
+    }
 }

@@ -4,7 +4,7 @@ ghost use Rattle.words.specs.Places.{factors_at};
 ghost use Rattle.tables.specs.Opening.{cleared, OpenPromise, factors_put};
 
 use crate::settings::settings_allowed;
-use meaning::{Opened, Refusal};
+use meaning::Refusal;
 use words::places::{BOX_WORDS, CLASSES_AT, CYCLE_AT, FACTORS_AT, INTERVAL_AT, PACKETS_AT};
 
 // The first n words become 0.
@@ -32,19 +32,19 @@ fn write_factors(ws: &mut [u32], factors: &[u32])
 }
 
 // Opens a box: the words are then those of a new box, whatever stood there before; a refusal leaves them as they were.
-pub fn open(ws: &mut [u32], d: u32, m: u32, factors: &[u32]) -> Opened
+pub fn open(ws: &mut [u32], d: u32, m: u32, factors: &[u32]) -> Result<(), Refusal>
     ensures { OpenPromise ws.old d m factors.now result ws.new }
 {
     if !settings_allowed(d, m, factors) {
-        return Opened::Refused(Refusal::SettingsOffRange);
+        return Err(Refusal::SettingsOffRange);
     }
     if ws.len() < BOX_WORDS {
-        return Opened::Refused(Refusal::TooShort);
+        return Err(Refusal::TooShort);
     }
     clear(ws, PACKETS_AT);
     ws[INTERVAL_AT] = d;
     ws[CYCLE_AT] = m;
     ws[CLASSES_AT] = factors.len() as u32;
     write_factors(ws, factors);
-    Opened::Done
+    Ok(())
 }

@@ -6,13 +6,12 @@ use mathlib.Core.List.{List, [], ◌∷◌, ◌++◌, append_assoc, append-nil}
 use native.Mathlib.Omega.{arith}
 use lib.ListN.{length, get_or, take, drop, set}
 use lib.Seq.{drop-cons, drop-length, take-suc-set}
-use Rattle.meaning.specs.declared.Admitted.{Admitted}
 use Rattle.meaning.specs.declared.Connection.{Connection}
 use Rattle.meaning.specs.Box.{Box}
 use Rattle.meaning.specs.Answers.{admitted}
 use Rattle.meaning.specs.Calls.{admission_answer, after_admission}
 use Rattle.meaning.specs.Plan.{words_of, connection_at}
-use Rattle.meaning.specs.Run.{AfterAdmissions, admit_line, line_of_admission, admit_all}
+use Rattle.meaning.specs.Run.{AfterAdmissions, line_of_admission, admit_all}
 use Rattle.meaning.specs.Lines.{line_text, text_of}
 use Rattle.words.specs.Contents.{contents}
 use Rattle.words.specs.Sound.{sound_words}
@@ -21,6 +20,9 @@ use Rattle.lines.specs.Put.{Room, Put}
 use Rattle.multiplexer.specs.Promised.{Leaves}
 use Rattle.whole_run.specs.Parts.{connections_in, admissions_of, Admits}
 use Rattle.lines.proofs.Reached.{Reached, reached_start, reached_as, reached_next, reached_on, reached_end, text_cons, text_none}
+use Rattle.std.proofs.Common.{Result}
+use Rattle.meaning.specs.declared.Refusal.{Refusal}
+use Rattle.meaning.specs.declared.Line.{Line}
 
 -- The admissions from place i on, counted from 0.
 abbrev rest_admitted : List ℕ → ℕ → Box → AfterAdmissions
@@ -44,9 +46,9 @@ admit_start bytes ws numbers out e =
     }
 
 -- The line of an admission from what the code prints.
-line_is : (i place number t : ℕ) (answer : Admitted) → place ≡ suc i → number ≡ (admitted answer).number
+line_is : (i place number t : ℕ) (answer : Result ℕ Refusal) → place ≡ suc i → number ≡ (admitted answer).number
     → t ≡ get_or (admitted answer).fields 1 0
-    → admit_line place number t ≡ line_of_admission (suc i) answer
+    → Line.Admit place number t ≡ line_of_admission (suc i) answer
 unfolding line_of_admission
 line_is i place number t answer e f g = rw (e, f, g) refl
 
@@ -84,7 +86,7 @@ module _ (bytes : List ℕ) (i : ℕ) (c : Connection) (is : c ≡ connection_at
       (g : t ≡ get_or (admitted (admission_answer (contents ws) c)).fields 1 0)
     where
       -- The answer to the connection.
-      abbrev answer : Admitted
+      abbrev answer : Result ℕ Refusal
       answer = admission_answer (contents ws) c
 
       -- The box after that answer.
@@ -94,7 +96,7 @@ module _ (bytes : List ℕ) (i : ℕ) (c : Connection) (is : c ≡ connection_at
       -- What is left to print is the connection's line and the lines of the rest.
       to_print :
           Reached before out 0 (text_of (admissions_of bytes box).lines)
-          (line_text (admit_line place number t) ++ text_of (rest_admitted bytes (suc i) after).lines) at
+          (line_text (Line.Admit place number t) ++ text_of (rest_admitted bytes (suc i) after).lines) at
       to_print =
           reached_as _
           (ap (λ r. text_of r.lines) (opens (contents ws)) ∙
@@ -103,14 +105,14 @@ module _ (bytes : List ℕ) (i : ℕ) (c : Connection) (is : c ≡ connection_at
           a.reached
 
       -- There is room for the connection's line.
-      pub admit_room : Room out at (line_text (admit_line place number t))
-      admit_room = reached_next (line_text (admit_line place number t)) (text_of (rest_admitted bytes (suc i) after).lines) room to_print
+      pub admit_room : Room out at (line_text (Line.Admit place number t))
+      admit_room = reached_next (line_text (Line.Admit place number t)) (text_of (rest_admitted bytes (suc i) after).lines) room to_print
 
       -- Once the connection's line is printed and its number stands, one more admission is done.
       pub admit_on :
           {next : List ℕ} {last : ℕ} (left : List ℕ) (given : ℕ) → i < length numbers → given ≡ get_or (admitted answer).fields 0 0
           → Leaves ws left after
-          → Put out next at (line_text (admit_line place number t)) last
+          → Put out next at (line_text (Line.Admit place number t)) last
           → Admitting bytes box (i + 1) left (set numbers i given) before next last
       admit_on {next} {last} left given h v l p =
           let s : suc i ≡ i + 1 = omega arith in
@@ -130,7 +132,7 @@ module _ (bytes : List ℕ) (i : ℕ) (c : Connection) (is : c ≡ connection_at
                 a.numbers_join;
             reached =
                 reached_as _ (sym (ap (λ r. text_of r.lines) same))
-                (reached_on (line_text (admit_line place number t)) (text_of (rest_admitted bytes (suc i) after).lines) room to_print p);
+                (reached_on (line_text (Line.Admit place number t)) (text_of (rest_admitted bytes (suc i) after).lines) room to_print p);
           })
 
 -- All admissions are done.

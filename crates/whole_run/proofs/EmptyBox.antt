@@ -12,11 +12,13 @@ use Rattle.meaning.specs.declared.Stepped.{Stepped}
 use Rattle.meaning.specs.Numbers.{last_slot}
 use Rattle.meaning.specs.Queues.{turned, lowest_head, tag_zero_waits}
 use Rattle.meaning.specs.declared.Packet.{Packet}
-use Rattle.meaning.specs.Box.{Box, Link, free, carries, waiting, on_link, packets, sound}
+use Rattle.meaning.specs.Box.{Box, waiting, on_link, packets, sound}
 use Rattle.meaning.specs.Step.{loaded, link_taken, queues_taken, sent_answer, link_sent, turn_due, step_answer, queues_stepped, moved, after_step}
 use Rattle.meaning.proofs.QueueLaws.{nothing_taken}
 use Rattle.meaning.proofs.KeepsSound.{step_keeps_sound}
 use Rattle.tables.specs.TableChanges.{with_counter}
+use Rattle.std.proofs.Common.{Ok}
+use Rattle.meaning.specs.declared.Link.{Link}
 
 -- Queues in which nothing waits.
 none_lowest : (qs : List (List Packet)) → length (flatten qs) ≡ 0 → lowest_head qs ≡ none
@@ -48,14 +50,14 @@ none_turned ((p ∷ q) ∷ qs) e = absurd (let z = e in omega arith)
 
 -- "the box is empty".
 pub record Empty (box : Box) : Type 0 where
-  pub link_free : box.link ≡ free
+  pub link_free : box.link ≡ Link.Free
   pub none_wait : length (flatten box.queues) ≡ 0
 
 -- A link with no packet on it is free.
-no_packet_lem : (l : Link) → length (on_link l) ≡ 0 → l ≡ free
+no_packet_lem : (l : Link) → length (on_link l) ≡ 0 → l ≡ Link.Free
 unfolding on_link
-no_packet_lem free e = refl
-no_packet_lem (carries p left) e = absurd (let z = e in omega arith)
+no_packet_lem Link.Free e = refl
+no_packet_lem (Link.Carries p left) e = absurd (let z = e in omega arith)
 
 -- A box with no packet is empty.
 pub empty_box : (box : Box) → length (packets box) ≡ 0 → Empty box
@@ -76,7 +78,7 @@ empty_later box n e = record { link_free = e.link_free; none_wait = e.none_wait 
 
 module _ (box : Box) (e : Empty box) where
   -- The link of an empty box stays free.
-  link_stays : link_taken box.link box.queues ≡ free
+  link_stays : link_taken box.link box.queues ≡ Link.Free
   unfolding link_taken loaded
   link_stays = ap (λ l. link_taken l box.queues) e.link_free ∙ ap loaded (none_lowest box.queues e.none_wait)
 
@@ -120,7 +122,7 @@ module _ (box : Box) (e : Empty box) where
 
   module _ (s : sound box ≡ true) (below : box.counter < last_slot) where
     -- A step of an empty, sound box before the last slot is idle.
-    pub idle_answer : step_answer box ≡ Stepped.Idle
+    pub idle_answer : step_answer box ≡ (Ok Stepped.Idle)
     unfolding step_answer sent_answer
     idle_answer = rw (s, lt-leb last_slot box.counter below, not_blocked, link_stays) refl
 

@@ -3,16 +3,15 @@ use Prim.Native.Nat.{ℕ, suc, ◌+◌, ◌≤◌, ◌<◌}
 use mathlib.Core.Path.{◌≡◌, refl, sym, ap, ◌∙◌, subst}
 use mathlib.Core.Bool.{true, false}
 use mathlib.Core.List.{List, [], ◌∷◌, ◌++◌, append_assoc}
-use mathlib.Core.Logic.{◌≢◌}
 use native.Mathlib.Omega.{arith}
 use lib.ListN.{length}
 use Rattle.laws.specs.Lists.{Placed}
 use Rattle.meaning.specs.Box.{Box}
-use Rattle.meaning.specs.Answers.{stepped}
+use Rattle.meaning.specs.Answers.{refusal_number, stepped}
 use Rattle.meaning.specs.Calls.{offer_answer, after_offer}
 use Rattle.meaning.specs.Step.{moved}
 use Rattle.meaning.specs.declared.Arrival.{Arrival}
-use Rattle.meaning.specs.Run.{Line, end_line, stop_line, number_of, offer_all, departures, finished}
+use Rattle.meaning.specs.Run.{number_of, offer_all, departures, finished}
 use Rattle.meaning.specs.Lines.{line_text, text_of}
 use Rattle.meaning.specs.Rest.{potential, due_now, rest_of, after_answer}
 use Rattle.meaning.proofs.OfferLines.{offer_counter}
@@ -28,7 +27,11 @@ use Rattle.whole_run.specs.declared.slots.Slot.{Slot}
 use Rattle.whole_run.specs.Parts.{RunsSlot, PassesIdle, Walked, arrivals_placed, offers_now, answer_now, lines_of_slot, rest_of_run}
 use Rattle.lines.proofs.Reached.{Reached, reached_start, reached_as, reached_room, reached_next, reached_on, reached_last, text_one}
 use Rattle.lines.proofs.Reached.{text_append}
-use Rattle.whole_run.proofs.Stepping.{after_stop, after_on_lem, after_moved, departed_most}
+use Rattle.whole_run.proofs.Stepping.{after_stop, after_on_lem, after_moved, departed_most, departed_same, not_refused}
+use Rattle.std.proofs.Common.{Result, Err}
+use Rattle.meaning.specs.declared.Line.{Line}
+use Rattle.meaning.specs.declared.Refusal.{Refusal}
+use Rattle.meaning.specs.declared.Stepped.{Stepped}
 
 -- Offers do not move the counter.
 offers_counter : (numbers : List ℕ) (l : List (Placed Arrival)) (box : Box) → (offer_all numbers l box).box.counter ≡ box.counter
@@ -89,22 +92,22 @@ module _ {numbers bytes : List ℕ} {box : Box} {ws before out : List ℕ} {star
         (a : accepted ≡ (contents ws).accepted)
       where
         -- Where the run is finished, its END line is all that is left.
-        last_line : text_of (rest_of l numbers now departed) ≡ line_text (end_line counter accepted departed)
+        last_line : text_of (rest_of l numbers now departed) ≡ line_text (Line.End counter accepted departed)
         last_line =
-            ap text_of (rest_ended l numbers now departed over) ∙ text_one (end_line now.counter now.accepted departed) ∙
-            ap (λ n. line_text (end_line n now.accepted departed)) (sym c) ∙
-            ap (λ n. line_text (end_line counter n departed)) (sym a)
+            ap text_of (rest_ended l numbers now departed over) ∙ text_one (Line.End now.counter now.accepted departed) ∙
+            ap (λ n. line_text (Line.End n now.accepted departed)) (sym c) ∙
+            ap (λ n. line_text (Line.End counter n departed)) (sym a)
 
         -- Where the run is finished, the text has come to the END line.
-        end_reached : Reached before out start (text_of (rest_of_run numbers bytes box)) (line_text (end_line counter accepted departed)) at
+        end_reached : Reached before out start (text_of (rest_of_run numbers bytes box)) (line_text (Line.End counter accepted departed)) at
         end_reached = reached_as _ last_line g.reached
 
         -- There is room for the END line.
-        pub end_room : Room out at (line_text (end_line counter accepted departed))
+        pub end_room : Room out at (line_text (Line.End counter accepted departed))
         end_room = reached_room room end_reached
 
         -- With the END line put, the whole rest of the run is put.
-        pub end_put : {last : List ℕ} {next : ℕ} → Put out last at (line_text (end_line counter accepted departed)) next
+        pub end_put : {last : List ℕ} {next : ℕ} → Put out last at (line_text (Line.End counter accepted departed)) next
             → Put before last start (text_of (rest_of_run numbers bytes box)) next
         end_put p = reached_last room end_reached p
 
@@ -135,31 +138,37 @@ module _ {numbers bytes : List ℕ} {box : Box} {ws before out : List ℕ} {star
         left_reached = reached_on (text_of (lines_of_slot numbers bytes now)) (text_of left) room slot_reached s.text
 
         -- its step was refused
-        module _ (refused : r.answer ≢ 0) where
+        module _ (why : Refusal) (refused : r.answer ≡ Err why) (number : ℕ) (told : number ≡ refusal_number why) where
           -- After a refused step the text has come to the STOP line.
-          stop_reached : Reached before printed start (text_of (rest_of_run numbers bytes box)) (line_text (stop_line r.answer)) r.at
+          stop_reached : Reached before printed start (text_of (rest_of_run numbers bytes box)) (line_text (Line.Stop number)) r.at
           stop_reached =
               reached_as _
-              (ap text_of (after_stop l numbers (offers_now numbers bytes now).box departed (answer_now numbers bytes now)
-              (λ e. refused (s.answer_is ∙ e))) ∙
-              text_one (stop_line (stepped (answer_now numbers bytes now)).number) ∙
-              ap (λ n. line_text (stop_line n)) (sym s.answer_is))
+              (ap text_of
+              (ap (after_answer l numbers (offers_now numbers bytes now).box departed) (sym s.answer_is ∙ refused) ∙
+              after_stop l numbers (offers_now numbers bytes now).box departed why) ∙
+              text_one (Line.Stop (refusal_number why)) ∙
+              ap (λ n. line_text (Line.Stop n)) (sym told))
               left_reached
 
           -- There is room for the STOP line.
-          pub stop_room : Room printed r.at (line_text (stop_line r.answer))
+          pub stop_room : Room printed r.at (line_text (Line.Stop number))
           stop_room = reached_room room stop_reached
 
           -- With the STOP line put, the whole rest of the run is put.
-          pub stop_put : {last : List ℕ} {next : ℕ} → Put printed last r.at (line_text (stop_line r.answer)) next
+          pub stop_put : {last : List ℕ} {next : ℕ} → Put printed last r.at (line_text (Line.Stop number)) next
               → Put before last start (text_of (rest_of_run numbers bytes box)) next
           stop_put p = reached_last room stop_reached p
 
         -- its step was not refused
-        module _ (fine : r.answer ≡ 0) where
+        module _ (fine : (why : Refusal) → r.answer ≡ Err why → ⊥) (more : ℕ) (departs : more ≡ length (departures [] r.answer)) where
           -- The answer of the slot's step has the number 0.
           number_zero : (stepped (answer_now numbers bytes now)).number ≡ 0
-          number_zero = sym s.answer_is ∙ fine
+          number_zero = ap (λ (a : Result Stepped Refusal). (stepped a).number) (sym s.answer_is) ∙ not_refused r.answer fine
+
+          -- The departed packets are those of its answer.
+          departed_are : more ≡ length (departures numbers (answer_now numbers bytes now))
+          departed_are =
+              departs ∙ departed_same numbers r.answer ∙ ap (λ (a : Result Stepped Refusal). length (departures numbers a)) s.answer_is
 
           -- The words stand for the box that the step has moved.
           moves : contents after ≡ moved (offers_now numbers bytes now).box
@@ -172,21 +181,21 @@ module _ {numbers bytes : List ℕ} {box : Box} {ws before out : List ℕ} {star
               ap suc (offers_counter numbers (due_now l now) now)
 
           -- The departed packets are at most 4,000,000,001, so their count fits a word.
-          pub departed_fits : departed + r.departed ≤ 4000000001
+          pub departed_fits : departed + more ≤ 4000000001
           departed_fits =
               let c = counter_most ws g.still_sound in
               let m = departed_most numbers (answer_now numbers bytes now) in
-              omega (arith, c, m, g.few, s.departed_are)
+              omega (arith, c, m, g.few, departed_are)
 
           -- After the slot less is left to do.
           pub falls : potential (arrivals_placed bytes) (contents after) < potential (arrivals_placed bytes) (contents ws)
           falls = subst (λ (b : Box). potential l b < potential l now) (sym moves) (slot_falls l numbers now on)
 
           -- One slot more is run, and the rest of the run is still to be printed.
-          pub going_on : Going numbers bytes box after before printed start r.at r.passed (departed + r.departed)
+          pub going_on : Going numbers bytes box after before printed start r.at r.passed (departed + more)
           going_on =
               let m = departed_most numbers (answer_now numbers bytes now) in
-              let d = s.departed_are in
+              let d = departed_are in
               record {
                 still_sound = s.still_sound;
                 walked = s.passes ∙ ap (λ n. leading n (arrivals_in bytes)) (sym counts);

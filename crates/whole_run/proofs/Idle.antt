@@ -33,6 +33,7 @@ use Rattle.whole_run.specs.Parts.{arrivals_placed, Sorted, Walked, PassesIdle}
 use Rattle.whole_run.proofs.Due.{placed_due}
 use Rattle.whole_run.proofs.Passing.{not_yet}
 use Rattle.whole_run.proofs.EmptyBox.{Empty, empty_box, empty_later, idle_moves, idle_answer, idle_sound}
+use Rattle.std.proofs.Common.{Ok}
 
 -- Up to the slot of the first arrival that is not before a limit, no more arrivals are before.
 pub leading_still : (limit slot : ℕ) (l : List Arrival) → leading limit l < length l → limit ≤ slot
@@ -67,7 +68,7 @@ module _ (l : List (Placed Arrival)) (numbers : List ℕ) (box : Box) (none : du
   offered due = (offer_all numbers due box).box
 
   -- A slot with an idle step and no arrival prints no line.
-  slot_passed : (departed : ℕ) → step_answer box ≡ Stepped.Idle → rest_of l numbers box departed ≡ rest_of l numbers (moved box) departed
+  slot_passed : (departed : ℕ) → step_answer box ≡ (Ok Stepped.Idle) → rest_of l numbers box departed ≡ rest_of l numbers (moved box) departed
   unfolding offer_all departures after_answer
   slot_passed departed idle =
       rest_goes_on l numbers box departed on ∙

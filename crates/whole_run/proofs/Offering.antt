@@ -7,13 +7,12 @@ use native.Mathlib.Omega.{arith}
 use lib.ListN.{length, get_or, drop}
 use lib.Seq.{drop-cons, drop-length}
 use Rattle.laws.specs.Lists.{placed_from}
-use Rattle.meaning.specs.declared.Offered.{Offered}
 use Rattle.meaning.specs.Box.{Box}
 use Rattle.meaning.specs.Answers.{offered}
 use Rattle.meaning.specs.Calls.{offer_answer, after_offer}
 use Rattle.meaning.specs.declared.Arrival.{Arrival}
 use Rattle.meaning.specs.Plan.{words_of, arrival_at}
-use Rattle.meaning.specs.Run.{AfterOffers, offer_line, number_of, offer_all}
+use Rattle.meaning.specs.Run.{AfterOffers, number_of, offer_all}
 use Rattle.meaning.specs.Lines.{line_text, text_of}
 use Rattle.words.specs.Contents.{contents}
 use Rattle.words.specs.Sound.{sound_words}
@@ -24,6 +23,9 @@ use Rattle.lines.specs.Put.{Room, Put}
 use Rattle.multiplexer.specs.Promised.{Leaves}
 use Rattle.whole_run.specs.Parts.{offers_of, Offers}
 use Rattle.lines.proofs.Reached.{Reached, reached_start, reached_as, reached_next, reached_on, reached_end, text_cons, text_none}
+use Rattle.std.proofs.Common.{Result}
+use Rattle.meaning.specs.declared.Refusal.{Refusal}
+use Rattle.meaning.specs.declared.Line.{Line}
 
 -- The offers from the i-th arrival on, counted from 0.
 abbrev rest_offered : List ℕ → List ℕ → ℕ → ℕ → Box → AfterOffers
@@ -63,7 +65,7 @@ module _ (numbers due : List ℕ) (from i : ℕ) (a : Arrival) (is : a ≡ arriv
       (get_or_table arrival_at 3 (words_of due) 0 (length due / 12) i a below ∙ ap (arrival_at (words_of due)) z ∙ sym is)
 
   -- The answer to the arrival's offer, on a box.
-  abbrev answer_on : Box → Offered
+  abbrev answer_on : Box → Result ℕ Refusal
   answer_on box = offer_answer box (number_of numbers a.place) a.units
 
   -- The box after that answer.
@@ -75,7 +77,7 @@ module _ (numbers due : List ℕ) (from i : ℕ) (a : Arrival) (is : a ≡ arriv
   opened box =
       let rest = rest_offered numbers due from (suc i) (after_on box) in
       record {
-        lines = offer_line (suc from + i) (offered (answer_on box)).number (get_or (offered (answer_on box)).fields 0 0) ∷ rest.lines;
+        lines = Line.Offer (suc from + i) (offered (answer_on box)).number (get_or (offered (answer_on box)).fields 0 0) ∷ rest.lines;
         box = rest.box;
       }
 
@@ -89,7 +91,7 @@ module _ (numbers due : List ℕ) (from i : ℕ) (a : Arrival) (is : a ≡ arriv
       (λ k.
       let rest = offer_all numbers (placed_from k (drop (suc i) (arrivals_in due))) (after_on box) in
       let whole : AfterOffers = record {
-        lines = offer_line (suc from + i) (offered (answer_on box)).number (get_or (offered (answer_on box)).fields 0 0) ∷ rest.lines;
+        lines = Line.Offer (suc from + i) (offered (answer_on box)).number (get_or (offered (answer_on box)).fields 0 0) ∷ rest.lines;
         box = rest.box;
       } in whole)
       n
@@ -104,14 +106,14 @@ module _ (numbers due : List ℕ) (from i : ℕ) (a : Arrival) (is : a ≡ arriv
       after = after_on (contents ws)
 
       -- Its line, from what the code prints.
-      line_is : offer_line place number serial ≡
-          offer_line (suc from + i) (offered (answer_on (contents ws))).number (get_or (offered (answer_on (contents ws))).fields 0 0)
+      line_is : Line.Offer place number serial ≡
+          Line.Offer (suc from + i) (offered (answer_on (contents ws))).number (get_or (offered (answer_on (contents ws))).fields 0 0)
       line_is = rw (e, f, g) refl
 
       -- What is left to print is the offer's line and the lines of the rest.
       to_print :
           Reached before out start (text_of (offers_of numbers due from box).lines)
-          (line_text (offer_line place number serial) ++ text_of (rest_offered numbers due from (suc i) after).lines) at
+          (line_text (Line.Offer place number serial) ++ text_of (rest_offered numbers due from (suc i) after).lines) at
       to_print =
           reached_as _
           (ap (λ r. text_of r.lines) (opens (contents ws)) ∙
@@ -120,14 +122,14 @@ module _ (numbers due : List ℕ) (from i : ℕ) (a : Arrival) (is : a ≡ arriv
           o.reached
 
       -- There is room for the offer's line.
-      pub offer_room : Room out at (line_text (offer_line place number serial))
+      pub offer_room : Room out at (line_text (Line.Offer place number serial))
       offer_room =
-          reached_next (line_text (offer_line place number serial)) (text_of (rest_offered numbers due from (suc i) after).lines) room to_print
+          reached_next (line_text (Line.Offer place number serial)) (text_of (rest_offered numbers due from (suc i) after).lines) room to_print
 
       -- Once the offer's line is printed, one more offer is done.
       pub offer_on :
           {next : List ℕ} {last : ℕ} (left : List ℕ) → Leaves ws left after
-          → Put out next at (line_text (offer_line place number serial)) last
+          → Put out next at (line_text (Line.Offer place number serial)) last
           → Offering numbers due from box (i + 1) left before next start last
       offer_on {next} {last} left l p =
           let s : suc i ≡ i + 1 = omega arith in
@@ -139,7 +141,7 @@ module _ (numbers due : List ℕ) (from i : ℕ) (a : Arrival) (is : a ≡ arriv
             box_same = ap (λ r. r.box) same ∙ sym (ap (λ r. r.box) (opens (contents ws))) ∙ o.box_same;
             reached =
                 reached_as _ (sym (ap (λ r. text_of r.lines) same))
-                (reached_on (line_text (offer_line place number serial)) (text_of (rest_offered numbers due from (suc i) after).lines) room
+                (reached_on (line_text (Line.Offer place number serial)) (text_of (rest_offered numbers due from (suc i) after).lines) room
                 to_print p);
           })
 

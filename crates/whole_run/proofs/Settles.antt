@@ -5,12 +5,13 @@ use mathlib.Core.List.{List}
 use native.Mathlib.Omega.{arith}
 use lib.Seq.{ext_get_or}
 use Rattle.tables.proofs.Settles.{one}
-use Rattle.meaning.specs.declared.Printed.{Printed}
 use Rattle.whole_run.specs.Printing.{RunPromise}
 use Rattle.whole_run.specs.Rooms.{Zeros}
+use Rattle.std.proofs.Common.{Result}
+use Rattle.meaning.specs.declared.Refusal.{Refusal}
 
 -- Two results of `run_plan` that keep its promise are the same, and so are the buffers they leave.
-pub run_plan_settles : (plan entry : List ℕ) (r s : Printed) (after left : List ℕ) → RunPromise plan entry r after
+pub run_plan_settles : (plan entry : List ℕ) (r s : Result ℕ Refusal) (after left : List ℕ) → RunPromise plan entry r after
     → RunPromise plan entry s left → (r ≡ s) × (after ≡ left)
 run_plan_settles plan entry r s after left p q = (one p.0 q.0, one p.1 q.1)
 

@@ -1,13 +1,12 @@
 -- One slot of a run: the stretch of its arrivals, its offers and its step.
 use Prim.Native.Nat.{ℕ, suc, ◌+◌, ◌/◌, ◌≤◌}
 use mathlib.Core.Path.{◌≡◌, sym, ap, ◌∙◌, subst}
-use mathlib.Core.List.{List, [], ◌++◌}
+use mathlib.Core.List.{List, ◌++◌}
 use native.Mathlib.Omega.{arith}
 use lib.ListN.{length}
 use Rattle.laws.specs.Lists.{placed_from}
 use Rattle.meaning.specs.declared.Stepped.{Stepped}
 use Rattle.meaning.specs.Box.{Box}
-use Rattle.meaning.specs.Answers.{stepped}
 use Rattle.meaning.specs.Step.{step_answer, after_step}
 use Rattle.meaning.specs.Plan.{arrivals_of}
 use Rattle.meaning.specs.Run.{AfterOffers, offer_all, departures}
@@ -23,7 +22,8 @@ use Rattle.multiplexer.specs.Promised.{Leaves}
 use Rattle.whole_run.specs.Parts.{Offers, RunsSlot, Sorted, Walked, arrivals_placed, offers_of, offers_now, answer_now, lines_of_slot}
 use Rattle.lines.proofs.Reached.{text_append}
 use Rattle.whole_run.proofs.Due.{placed_due}
-use Rattle.whole_run.proofs.Stepping.{departed_same}
+use Rattle.std.proofs.Common.{Result}
+use Rattle.meaning.specs.declared.Refusal.{Refusal}
 
 module _ (numbers bytes : List ℕ) (box : Box) (passed : ℕ) (walked : Walked bytes box passed) (sorted : Sorted bytes) (due : List ℕ)
     (slot : ℕ) (is : due ≡ stretch_of bytes passed slot) (counted : slot ≡ box.counter)
@@ -79,7 +79,7 @@ module _ (numbers bytes : List ℕ) (box : Box) (passed : ℕ) (walked : Walked 
           (room_first out start (text_of (offers_now numbers bytes box).lines) (text_of (departures numbers (answer_now numbers bytes box)))
           both)
 
-      module _ {ws printed : List ℕ} {at : ℕ} (o : Offers (offers_of numbers due passed box) ws out printed start at) (answer : Stepped)
+      module _ {ws printed : List ℕ} {at : ℕ} (o : Offers (offers_of numbers due passed box) ws out printed start at) (answer : Result Stepped Refusal)
           (a : answer ≡ step_answer (contents ws))
         where
           -- After the offers the words stand for the box that the slot's offers leave.
@@ -97,24 +97,21 @@ module _ (numbers bytes : List ℕ) (box : Box) (passed : ℕ) (walked : Walked 
           -- There is room for the line of the slot's step.
           pub step_room : Room printed at (text_of (departures numbers answer))
           step_room =
-              subst (λ (x : Stepped). Room printed at (text_of (departures numbers x))) (sym now_is)
+              subst (λ (x : Result Stepped Refusal). Room printed at (text_of (departures numbers x))) (sym now_is)
               (room_after (text_of (departures numbers (answer_now numbers bytes box))) offered both)
 
           -- With the offers and the step done and their text put, the slot is run.
           pub slot_runs :
-              {after last : List ℕ} {next : ℕ} (number departed : ℕ) → Leaves ws after (after_step (contents ws) (step_answer (contents ws)))
-              → Put printed last at (text_of (departures numbers answer)) next → number ≡ (stepped answer).number
-              → departed ≡ length (departures [] answer)
-              → RunsSlot (record { at = next; passed = passed + length due / 12; answer = number; departed = departed }) numbers bytes box
-              after out last start
-          slot_runs {after} {last} {next} number departed l p n d =
+              {after last : List ℕ} {next : ℕ} → Leaves ws after (after_step (contents ws) (step_answer (contents ws)))
+              → Put printed last at (text_of (departures numbers answer)) next
+              → RunsSlot (record { at = next; passed = passed + length due / 12; answer = answer }) numbers bytes box after out last start
+          slot_runs {after} {last} {next} l p =
               record {
                 text =
                     subst (λ t. Put out last start t next) (sym text_of_slot)
-                    (then offered (subst (λ (x : Stepped). Put printed last at (text_of (departures numbers x)) next) now_is p) both);
+                    (then offered (subst (λ (x : Result Stepped Refusal). Put printed last at (text_of (departures numbers x)) next) now_is p) both);
                 passes = due_passes;
-                answer_is = n ∙ ap (λ (x : Stepped). (stepped x).number) now_is;
-                departed_are = d ∙ departed_same numbers answer ∙ ap (λ (x : Stepped). length (departures numbers x)) now_is;
+                answer_is = now_is;
                 still_sound = l.still_sound;
                 stand_for = l.stand_for ∙ ap (λ b. after_step b (step_answer b)) same;
               }

@@ -8,13 +8,11 @@ use lib.ListN.{length, take}
 use borrow.Author.Tests.{lt-ltb, le-ltb}
 use Rattle.meaning.specs.declared.Header.{Header}
 use Rattle.meaning.specs.declared.Refusal.{Refusal}
-use Rattle.meaning.specs.declared.Opened.{Opened}
-use Rattle.meaning.specs.declared.PlanRead.{PlanRead}
 use Rattle.meaning.specs.Numbers.{Settings}
 use Rattle.meaning.specs.Answers.{refusal_number}
 use Rattle.meaning.specs.Calls.{new_box, opening_answer}
 use Rattle.meaning.specs.Plan.{words_of, contents_of, reading_answer, table, factor_at}
-use Rattle.meaning.specs.Run.{Line, refused_line, open_run, plan_run, read_run, run}
+use Rattle.meaning.specs.Run.{open_run, plan_run, read_run, run}
 use Rattle.meaning.specs.Lines.{line_text, run_text, text_of, text_most}
 use Rattle.meaning.proofs.RunFits.{run_fits}
 use Rattle.words.specs.Places.{box_words}
@@ -26,10 +24,11 @@ use Rattle.plan.specs.Parts.{part_of}
 use Rattle.plan.specs.Readable.{Readable}
 use Rattle.plan.proofs.Good.{read_back}
 use Rattle.lines.specs.Put.{Room, Put}
-use Rattle.meaning.specs.declared.Printed.{Printed}
 use Rattle.whole_run.specs.Printing.{printing_answer, text_after}
 use Rattle.lines.proofs.Reached.{text_one}
 use Rattle.whole_run.proofs.Whole.{factors_are}
+use Rattle.std.proofs.Common.{Result, Ok, Err}
+use Rattle.meaning.specs.declared.Line.{Line}
 
 -- The text is that of the lines.
 run_text_lem : (bytes : List ℕ) → run_text bytes ≡ text_of (run bytes)
@@ -41,16 +40,16 @@ pub text_room : (bytes out : List ℕ) → 420000 ≤ length out → Room out 0 
 text_room bytes out h = let f = run_fits bytes in omega (arith, f, h)
 
 -- Reading refuses: one line.
-module _ (bytes : List ℕ) (answer : PlanRead) (is : answer ≡ reading_answer bytes) where
+module _ (bytes : List ℕ) (answer : Result Header Refusal) (is : answer ≡ reading_answer bytes) where
   -- The lines are those of the answer.
   reads : run bytes ≡ read_run bytes answer
   unfolding run
   reads = ap (read_run bytes) (sym is)
 
   -- They are one line, with the number of the refusal.
-  pub refused_by_reading : (why : Refusal) → answer ≡ PlanRead.Refused why → run_text bytes ≡ line_text (refused_line (refusal_number why))
+  pub refused_by_reading : (why : Refusal) → answer ≡ Err why → run_text bytes ≡ line_text (Line.Refused (refusal_number why))
   unfolding read_run
-  refused_by_reading why e = run_text_lem bytes ∙ ap text_of (reads ∙ ap (read_run bytes) e) ∙ text_one (refused_line (refusal_number why))
+  refused_by_reading why e = run_text_lem bytes ∙ ap text_of (reads ∙ ap (read_run bytes) e) ∙ text_one (Line.Refused (refusal_number why))
 
 -- Words enough are lent, so only the settings decide.
 opening_same : (settings : Settings) (ws : List ℕ) → length ws ≡ box_words → (openings.opened settings ws).0 ≡ opening_answer 0 0 settings
@@ -61,7 +60,7 @@ opening_same settings ws e =
 -- Reading succeeds: opening decides.
 module _ (bytes : List ℕ) (h : Header) (r : Readable bytes h) (classes factors ws : List ℕ)
     (part : classes ≡ part_of bytes h.classes 4) (copied : factors ≡ table factor_at 1 (words_of classes) 0 8)
-    (size : box_words ≡ length ws) {answer : Opened} {exit : List ℕ}
+    (size : box_words ≡ length ws) {answer : Result Unit Refusal} {exit : List ℕ}
     (is : (answer, exit) ≡ openings.opened (openings.asked h.interval h.cycle (take (length classes / 4) factors)) ws)
   where
     -- The settings that the box is opened with.
@@ -74,14 +73,14 @@ module _ (bytes : List ℕ) (h : Header) (r : Readable bytes h) (classes factors
 
     -- The answer is that of opening with these settings.
     answer_is : answer ≡ (openings.opened settings ws).0
-    answer_is = ap (λ (q : Opened × List ℕ). q.0) is
+    answer_is = ap (λ (q : Result Unit Refusal × List ℕ). q.0) is
 
     -- The words afterwards are those that this opening leaves.
     exit_is : exit ≡ (openings.opened settings ws).1
-    exit_is = ap (λ (q : Opened × List ℕ). q.1) is
+    exit_is = ap (λ (q : Result Unit Refusal × List ℕ). q.1) is
 
     -- The run that an answer of opening makes of the plan.
-    abbrev run_as : Opened → List Line
+    abbrev run_as : Result Unit Refusal → List Line
     run_as a = plan_run (contents_of (words_of bytes) h) a
 
     -- The run of the bytes is what the answer of opening makes of it.
@@ -92,7 +91,7 @@ module _ (bytes : List ℕ) (h : Header) (r : Readable bytes h) (classes factors
         ap run_as (sym (answer_is ∙ opening_same settings ws (sym size) ∙ ap (opening_answer 0 0) same))
 
     -- a box is open
-    module _ (done : answer ≡ Opened.Done) where
+    module _ (done : answer ≡ (Ok tt)) where
       -- The text of the run is that of the opened plan.
       pub run_opened : run_text bytes ≡ text_of (open_run (contents_of (words_of bytes) h))
       unfolding plan_run
@@ -107,21 +106,21 @@ module _ (bytes : List ℕ) (h : Header) (r : Readable bytes h) (classes factors
       opens_new = ap contents exit_is ∙ opened_new settings ws (sym answer_is ∙ done) ∙ ap new_box same
 
     -- opening refuses: one line
-    pub refused_by_opening : (why : Refusal) → answer ≡ Opened.Refused why → run_text bytes ≡ line_text (refused_line (refusal_number why))
+    pub refused_by_opening : (why : Refusal) → answer ≡ Err why → run_text bytes ≡ line_text (Line.Refused (refusal_number why))
     unfolding plan_run
-    refused_by_opening why e = run_text_lem bytes ∙ ap text_of (opens ∙ ap run_as e) ∙ text_one (refused_line (refusal_number why))
+    refused_by_opening why e = run_text_lem bytes ∙ ap text_of (opens ∙ ap run_as e) ∙ text_one (Line.Refused (refusal_number why))
 
 -- What is promised of a buffer that is too short, and of one that is long enough.
 pub too_short : (bytes out : List ℕ) → length out ≤ 419999
-    → (Printed.Refused Refusal.TooShort ≡ printing_answer bytes (length out)) × (out ≡ text_after bytes out)
+    → (Err Refusal.TooShort ≡ printing_answer bytes (length out)) × (out ≡ text_after bytes out)
 unfolding printing_answer text_after
 too_short bytes out h = let e = lt-ltb (length out) text_most (omega (arith, h)) in (rw e refl, rw e refl)
 
 -- A buffer that is long enough has the text.
 pub printed_whole : (bytes out last : List ℕ) (next : ℕ) → 420000 ≤ length out → Put out last 0 (run_text bytes) next
-    → (Printed.Written next ≡ printing_answer bytes (length out)) × (last ≡ text_after bytes out)
+    → (Ok next ≡ printing_answer bytes (length out)) × (last ≡ text_after bytes out)
 unfolding printing_answer text_after
 printed_whole bytes out last next h p =
     let e = le-ltb (length out) text_most (omega (arith, h)) in
     let n : next ≡ length (run_text bytes) = omega (arith, p.place) in
-    (rw e (ap Printed.Written n), rw e p.bytes)
+    (rw e (ap Ok n), rw e p.bytes)

@@ -1,15 +1,14 @@
 -- The parts of a whole run, as the functions that print them have them: tables and stretches in bytes, the box in words.
-use Rattle.std.specs.Prelude.{ℕ, suc, ◌/◌, ◌≤◌, ◌≡◌, true, List, ◌++◌, length, take, leb}
+use Rattle.std.specs.Prelude.{ℕ, suc, ◌/◌, ◌≤◌, ◌≡◌, true, List, ◌++◌, length, take, leb, Result}
 use Rattle.laws.specs.Tests.{every}
 use Rattle.laws.specs.Lists.{Placed, placed_from}
 use Rattle.meaning.specs.declared.Stepped.{Stepped}
 use Rattle.meaning.specs.declared.Connection.{Connection}
 use Rattle.meaning.specs.Box.{Box}
-use Rattle.meaning.specs.Answers.{stepped}
 use Rattle.meaning.specs.Step.{step_answer, after_step}
 use Rattle.meaning.specs.declared.Arrival.{Arrival}
 use Rattle.meaning.specs.Plan.{words_of, table, connection_at, never_falling_from, last_arrival_slot}
-use Rattle.meaning.specs.Run.{Line, AfterAdmissions, AfterOffers, admit_all, offer_all, departures}
+use Rattle.meaning.specs.Run.{AfterAdmissions, AfterOffers, admit_all, offer_all, departures}
 use Rattle.meaning.specs.Lines.{text_of}
 use Rattle.meaning.specs.Rest.{potential, due_now, rest_of}
 use Rattle.words.specs.Contents.{contents}
@@ -17,6 +16,8 @@ use Rattle.words.specs.Sound.{sound_words}
 use Rattle.plan.specs.Parts.{arrivals_in, leading}
 use Rattle.lines.specs.Put.{Put}
 use Rattle.whole_run.specs.declared.slots.Slot.{Slot}
+use Rattle.meaning.specs.declared.Refusal.{Refusal}
+use Rattle.meaning.specs.declared.Line.{Line}
 
 -- The connections of a table of bytes: sixteen bytes each.
 unfoldable pub connections_in : List ℕ → List Connection
@@ -62,7 +63,7 @@ abbrev pub offers_now : List ℕ → List ℕ → Box → AfterOffers
 offers_now numbers bytes box = offer_all numbers (due_now (arrivals_placed bytes) box) box
 
 -- The answer of the step of the slot to which the counter points.
-abbrev pub answer_now : List ℕ → List ℕ → Box → Stepped
+abbrev pub answer_now : List ℕ → List ℕ → Box → Result Stepped Refusal
 answer_now numbers bytes box = step_answer (offers_now numbers bytes box).box
 
 -- The lines of that slot.
@@ -77,8 +78,7 @@ box_after_slot numbers bytes box = after_step (offers_now numbers bytes box).box
 pub record RunsSlot (r : Slot) (numbers bytes : List ℕ) (box : Box) (ws before out : List ℕ) (start : ℕ) : Type 0 where
   pub text : Put before out start (text_of (lines_of_slot numbers bytes box)) r.at
   pub passes : r.passed ≡ leading (suc box.counter) (arrivals_in bytes)
-  pub answer_is : r.answer ≡ (stepped (answer_now numbers bytes box)).number
-  pub departed_are : r.departed ≡ length (departures numbers (answer_now numbers bytes box))
+  pub answer_is : r.answer ≡ answer_now numbers bytes box
   pub still_sound : sound_words ws ≡ true
   pub stand_for : contents ws ≡ box_after_slot numbers bytes box
 

@@ -7,7 +7,8 @@ ghost use Rattle.whole_run.specs.Parts.{admissions_of, Admits};
 ghost use Rattle.meaning.specs.Lines.{text_of};
 
 use answers::tell_admitted;
-use lines::put_admit;
+use lines::put;
+use meaning::Line;
 use multiplexer::admitting::admit_sound;
 use plan::tables::connection;
 
@@ -20,13 +21,12 @@ pub fn admit_all(ws: &mut [u32], table: &[u8], numbers: &mut [u32], out: &mut [u
 {
     let count = table.len() / 16;
     let mut at: usize = 0;
-    let mut i: usize = 0;
-    while i < count {
+    for i in 0..count {
         let c = connection(table, i);
-        let told = tell_admitted(admit_sound(ws, c));
-        at = put_admit(out, at, (i + 1) as u32, told[0], told[2]);
-        numbers[i] = told[1];
-        i += 1;
+        let [answer, number, t] = tell_admitted(admit_sound(ws, c));
+        let place = (i + 1) as u32;
+        at = put(out, at, Line::Admit { place, answer, t });
+        numbers[i] = number;
     }
     at
 }

@@ -8,7 +8,8 @@ ghost use Rattle.meaning.specs.Lines.{text_of};
 
 use super::places::number_of;
 use answers::tell_offered;
-use lines::put_offer;
+use lines::put;
+use meaning::Line;
 use multiplexer::offering::offer_sound;
 use plan::tables::arrival;
 
@@ -28,12 +29,19 @@ pub fn offer_all(
 {
     let count = due.len() / 12;
     let mut at = start;
-    let mut i: usize = 0;
-    while i < count {
+    for i in 0..count {
         let a = arrival(due, i);
-        let told = tell_offered(offer_sound(ws, number_of(numbers, a.place), a.units));
-        at = put_offer(out, at, (from + i + 1) as u32, told[0], told[1]);
-        i += 1;
+        let [answer, serial] = tell_offered(offer_sound(ws, number_of(numbers, a.place), a.units));
+        let place = (from + i + 1) as u32;
+        at = put(
+            out,
+            at,
+            Line::Offer {
+                place,
+                answer,
+                serial,
+            },
+        );
     }
     at
 }

@@ -13,9 +13,8 @@ ghost use Rattle.whole_run.specs.Printing.{RunPromise};
 use super::admissions::admit_all;
 use super::rooms::box_room;
 use super::slots::run_slots;
-use answers::number_of;
-use lines::put_refused;
-use meaning::{Header, Opened, PlanRead, Printed, Refusal};
+use lines::put;
+use meaning::{Header, Line, Refusal};
 use plan::reading::read;
 use plan::tables::{arrivals, classes, connections, factor};
 use tables::opening::open;
@@ -55,10 +54,9 @@ fn run_read(plan: &[u8], h: Header, out: &mut [u8]) -> usize
     let table = classes(plan, h);
     copy_factors(table, &mut factors);
     let count = table.len() / 4;
-    let opened = open(&mut ws, h.interval, h.cycle, &factors[..count]);
-    match opened {
-        Opened::Done => run_open(&mut ws, plan, h, out),
-        Opened::Refused(why) => put_refused(out, 0, number_of(why)),
+    match open(&mut ws, h.interval, h.cycle, &factors[..count]) {
+        Ok(()) => run_open(&mut ws, plan, h, out),
+        Err(why) => put(out, 0, Line::Refused(u32::from(why))),
     }
 }
 
@@ -67,20 +65,19 @@ fn print_run(plan: &[u8], out: &mut [u8]) -> usize
     requires { text_most ≤ length out.old }
     ensures { Put out.old out.new 0 (run_text plan.now) result }
 {
-    let r = read(plan);
-    match r {
-        PlanRead::Good(h) => run_read(plan, h, out),
-        PlanRead::Refused(why) => put_refused(out, 0, number_of(why)),
+    match read(plan) {
+        Ok(h) => run_read(plan, h, out),
+        Err(why) => put(out, 0, Line::Refused(u32::from(why))),
     }
 }
 
 // Prints the run of a plan's bytes, whatever they are. A buffer under 420,000 bytes is refused with no byte changed: the longest text fits
 // into that many.
-pub fn run_plan(plan: &[u8], out: &mut [u8]) -> Printed
+pub fn run_plan(plan: &[u8], out: &mut [u8]) -> Result<usize, Refusal>
     ensures { RunPromise plan.now out.old result out.new }
 {
     if out.len() < 420000 {
-        return Printed::Refused(Refusal::TooShort);
+        return Err(Refusal::TooShort);
     }
-    Printed::Written(print_run(plan, out))
+    Ok(print_run(plan, out))
 }

@@ -11,9 +11,8 @@ ghost use Rattle.meaning.specs.Lines.{text_of};
 
 use super::offers::offer_all;
 use super::places::place_of;
-use answers::tell_stepped;
-use lines::{put_depart, put_end, put_stop};
-use meaning::Stepped;
+use lines::put;
+use meaning::{Line, Link, Refusal, Stepped};
 use multiplexer::stepping::step_sound;
 use plan::tables::{arrival, stretch};
 use store::lengths::waiting_count;
@@ -21,39 +20,53 @@ use tables::counter::{accepted, counter, pass_to};
 use tables::link::read_link;
 
 // The line of a step, if it has one: that of a departure.
-fn print_stepped(out: &mut [u8], at: usize, numbers: &[u32], answer: Stepped) -> usize
+#[tactic(auto, unfolding(meaning::specs::Run::departures))]
+fn print_stepped(
+    out: &mut [u8],
+    at: usize,
+    numbers: &[u32],
+    answer: Result<Stepped, Refusal>,
+) -> usize
     requires { (length numbers.now ≤ 32) × Room out.old at (text_of (departures numbers.now answer)) }
     ensures { Put out.old out.new at (text_of (departures numbers.now answer)) result }
 {
-    match answer {
+    let Ok(step) = answer else {
+        return at;
+    };
+    match step {
         Stepped::Departed {
             serial,
             connection,
             arrival,
             departure,
-        } => put_depart(
-            out,
-            at,
-            serial,
-            place_of(numbers, connection),
-            arrival,
-            departure,
-        ),
+        } => {
+            let place = place_of(numbers, connection);
+            put(
+                out,
+                at,
+                Line::Depart {
+                    serial,
+                    place,
+                    arrival,
+                    departure,
+                },
+            )
+        }
         Stepped::Idle => at,
         Stepped::Sending { .. } => at,
-        Stepped::Refused(why) => at,
     }
 }
 
 // The departures of a step: one or none.
-fn departed_by(answer: Stepped) -> u32
+#[tactic(auto, unfolding(meaning::specs::Run::departures))]
+fn departed_by(answer: Result<Stepped, Refusal>) -> u32
     ensures { result ≡ length (departures [] answer) }
 {
     match answer {
-        Stepped::Idle => 0,
-        Stepped::Sending { .. } => 0,
-        Stepped::Departed { .. } => 1,
-        Stepped::Refused(why) => 0,
+        Ok(Stepped::Departed { .. }) => 1,
+        Ok(Stepped::Idle) => 0,
+        Ok(Stepped::Sending { .. }) => 0,
+        Err(_) => 0,
     }
 }
 
@@ -62,11 +75,10 @@ fn is_empty(ws: &[u32]) -> bool
     requires { sound_words ws.now ≡ true }
     ensures { result ≡ eqb (length (packets (contents ws.now))) 0 }
 {
-    let link = read_link(ws);
-    if link.left != 0 {
-        return false;
+    match read_link(ws) {
+        Link::Free => waiting_count(ws) == 0,
+        Link::Carries { .. } => false,
     }
-    waiting_count(ws) == 0
 }
 
 // "no arrivals remain and the box is empty"; the arrivals before the slot are passed.
@@ -80,13 +92,12 @@ fn is_finished(ws: &[u32], table: &[u8], passed: usize) -> bool
     is_empty(ws)
 }
 
-// What a slot leaves: where the text stands, the arrivals that are passed, the number of the step's answer, and its departures.
+// What a slot leaves: where the text stands, the arrivals that are passed, and the step's answer.
 #[derive(Clone, Copy)]
 struct Slot {
     at: usize,
     passed: usize,
-    answer: u32,
-    departed: u32,
+    answer: Result<Stepped, Refusal>,
 }
 
 // One slot: its offers and its step.
@@ -108,13 +119,10 @@ fn run_slot(
     let due = stretch(table, passed, slot);
     let offered = offer_all(ws, due, passed, numbers, out, start);
     let answer = step_sound(ws);
-    let at = print_stepped(out, offered, numbers, answer);
-    let told = tell_stepped(answer);
     Slot {
-        at,
+        at: print_stepped(out, offered, numbers, answer),
         passed: passed + due.len() / 12,
-        answer: told[0],
-        departed: departed_by(answer),
+        answer,
     }
 }
 
@@ -156,12 +164,22 @@ pub fn run_slots(
     while !is_finished(ws, table, passed) {
         let slot = run_slot(ws, table, passed, numbers, out, at);
         at = slot.at;
-        if slot.answer != 0 {
-            return put_stop(out, at, slot.answer);
+        if let Err(why) = slot.answer {
+            return put(out, at, Line::Stop(u32::from(why)));
         }
         passed = slot.passed;
-        departed += slot.departed;
+        departed += departed_by(slot.answer);
         pass_idle(ws, table, passed);
     }
-    put_end(out, at, counter(ws), accepted(ws), departed)
+    let counter = counter(ws);
+    let accepted = accepted(ws);
+    put(
+        out,
+        at,
+        Line::End {
+            counter,
+            accepted,
+            departed,
+        },
+    )
 }

@@ -13,13 +13,14 @@ use Rattle.laws.specs.Tests.{every, within_facts}
 use Rattle.meaning.specs.Numbers.{largest_factor, class_count}
 use Rattle.meaning.specs.declared.Packet.{Packet}
 use Rattle.meaning.specs.declared.Standing.{Standing}
-use Rattle.meaning.specs.Box.{Box, Link, free, carries, link_kept, sound}
+use Rattle.meaning.specs.Box.{Box, link_kept, sound}
 use Rattle.meaning.proofs.Facts.{sound_facts, settings_facts}
 use Rattle.words.specs.Places.{word, start_of, lengths_below, place_of, tag_of, interval_at, factors_at, row_count_at, rows_at, counter_at, left_at, link_at, lengths_at, packets_at}
 use Rattle.words.specs.Contents.{contents, settings_at, standing_at, standings, packet_at, link_of, turns_at, queue_at, queues_at, padded, standing_words, packet_words, link_words, turns_of, by_place, laid, tables, image, put}
 use Rattle.words.specs.Sound.{zeros, unused_clear, link_clear, empty_from, untagged_empty}
 use Rattle.words.proofs.Laid.{after_part, zeros_read, entries_found, rest_clear, total, Fit, Found, after_laid, laid_found}
 use Rattle.words.proofs.Rotation.{place_below, tag_of_place}
+use Rattle.meaning.specs.declared.Link.{Link}
 
 -- What contents must keep to be read again from their words.
 pub record Puttable (box : Box) : Type 0 where
@@ -78,8 +79,8 @@ packet_size p = refl
 -- The link takes five words.
 pub link_size : (l : Link) → length (link_words l) ≡ 5
 unfolding link_words packet_words
-link_size free = refl
-link_size (carries p left) = refl
+link_size Link.Free = refl
+link_size (Link.Carries p left) = refl
 
 -- The parts of words that contents put: every table where it stands, and the packets after them.
 record Parts (box : Box) (ws : List ℕ) : Type 0 where
@@ -280,7 +281,7 @@ standings_read box ws k =
     (entries_found ws rows (drop counter_at ws) rows_at (counter_at - rows_at) k.rows_part)))
 
 -- A link with units left carries its packet.
-pub link_carries : (left : ℕ) (p : Packet) → 1 ≤ left → link_of left p ≡ carries p left
+pub link_carries : (left : ℕ) (p : Packet) → 1 ≤ left → link_of left p ≡ Link.Carries p left
 unfolding link_of
 link_carries zero p h = absurd (omega arith)
 link_carries (suc n) p h = refl
@@ -289,12 +290,12 @@ link_carries (suc n) p h = refl
 link_read : (l : Link) (ws r : List ℕ) → link_kept l ≡ true → drop left_at ws ≡ link_words l ++ r
     → link_of (word ws left_at) (packet_at ws link_at) ≡ l
 unfolding link_words link_of link_kept
-link_read free ws r k e = rw (word_at ws 0 (link_words free ++ r) left_at 0 e refl)
-link_read (carries p left) ws r k e =
-    (let a : word ws left_at ≡ left = word_at ws left (link_words (carries p left) ++ r) left_at 0 e refl in
+link_read Link.Free ws r k e = rw (word_at ws 0 (link_words Link.Free ++ r) left_at 0 e refl)
+link_read (Link.Carries p left) ws r k e =
+    (let a : word ws left_at ≡ left = word_at ws left (link_words (Link.Carries p left) ++ r) left_at 0 e refl in
     let b : packet_at ws link_at ≡ p = packet_read ws p r link_at (after_part ws (left ∷ []) (packet_words p ++ r) left_at 1 e refl) in
     let h : 1 ≤ left = (within_facts 1 left (p.units - 1) k).0 in
-    let c : link_of left p ≡ carries p left = link_carries left p h in
+    let c : link_of left p ≡ Link.Carries p left = link_carries left p h in
     ap (λ n. link_of n (packet_at ws link_at)) a ∙ ap (link_of left) b ∙ c)
 
 -- The number of turns that is read is that of the contents.
@@ -352,11 +353,11 @@ unused_put box ws k =
 -- Where the words of a link stand, its packet's words are 0 if no units are left.
 link_put : (l : Link) (ws r : List ℕ) → link_kept l ≡ true → drop left_at ws ≡ link_words l ++ r → link_clear ws ≡ true
 unfolding link_words link_clear link_kept
-link_put free ws r k e =
-    rw (word_at ws 0 (link_words free ++ r) left_at 0 e refl)
+link_put Link.Free ws r k e =
+    rw (word_at ws 0 (link_words Link.Free ++ r) left_at 0 e refl)
     (zeros_read ws r link_at (lengths_at - link_at) (after_part ws (0 ∷ []) (0 ∷ 0 ∷ 0 ∷ 0 ∷ r) left_at 1 e refl))
-link_put (carries p left) ws r k e =
-    (let a : word ws left_at ≡ left = word_at ws left (link_words (carries p left) ++ r) left_at 0 e refl in
+link_put (Link.Carries p left) ws r k e =
+    (let a : word ws left_at ≡ left = word_at ws left (link_words (Link.Carries p left) ++ r) left_at 0 e refl in
     let h : 1 ≤ left = (within_facts 1 left (p.units - 1) k).0 in
     ap (λ b. cond b (zeros ws link_at (lengths_at - link_at)) true) (ne_eqb (word ws left_at) 0 (omega arith)))
 

@@ -8,13 +8,13 @@ use native.Mathlib.Omega.{arith}
 use lib.ListN.{length, set, length-set}
 use Rattle.meaning.specs.declared.Packet.{Packet}
 use Rattle.meaning.specs.declared.Standing.{Standing}
-use Rattle.meaning.specs.Box.{Link}
 use Rattle.words.specs.Places.{word, interval_at, classes_at, factors_at, row_count_at, rows_at, counter_at, accepted_at, left_at, link_at, lengths_at}
 use Rattle.words.specs.Contents.{contents, settings_at, standings, packet_at, link_of, queues_at}
 use Rattle.words.specs.Sound.{zeros, link_clear, untagged_empty, Fitting}
 use Rattle.words.specs.Changes.{Become}
 use Rattle.words.proofs.Storing.{word_other}
 use Rattle.words.proofs.Same.{settings_same, standings_same, packet_same, zeros_same, turns_same, link_clear_same, lengths_same, queues_same, untagged_same}
+use Rattle.meaning.specs.declared.Link.{Link}
 
 -- Words from `from` up to, not including, `to` change, and no others.
 pub record Only (ws after : List ℕ) (from to : ℕ) : Type 0 where

@@ -6,8 +6,9 @@ use Rattle.meaning.specs.Numbers.{Settings, largest_factor}
 use Rattle.meaning.specs.declared.Connection.{Connection}
 use Rattle.meaning.specs.declared.Packet.{Packet}
 use Rattle.meaning.specs.declared.Standing.{Standing}
-use Rattle.meaning.specs.Box.{Box, Link, free, carries}
+use Rattle.meaning.specs.Box.{Box}
 use Rattle.words.specs.Places.{word, start_of, place_of, tag_of, interval_at, cycle_at, classes_at, factors_at, row_count_at, rows_at, counter_at, accepted_at, left_at, link_at, lengths_at, packets_at}
+use Rattle.meaning.specs.declared.Link.{Link}
 
 -- The settings: D, M and as many factors as word 2 says.
 unfoldable pub settings_at : List ℕ → Settings
@@ -44,8 +45,8 @@ no_packet = record { serial = 0; connection = 0; units = 0; arrival = 0 }
 
 -- The link with so many units left of this packet; 0 left is a free link.
 unfoldable pub link_of : ℕ → Packet → Link
-link_of zero p = free
-link_of (suc n) p = carries p (suc n)
+link_of zero p = Link.Free
+link_of (suc n) p = Link.Carries p (suc n)
 
 -- How often the queues have turned, which is floor(now/D), read from the words.
 unfoldable pub turns_at : List ℕ → ℕ
@@ -92,8 +93,8 @@ packet_words p = p.serial ∷ p.connection ∷ p.units ∷ p.arrival ∷ []
 
 -- The words of the link: units left, then the packet; all 0 where it is free.
 unfoldable pub link_words : Link → List ℕ
-link_words free = 0 ∷ 0 ∷ 0 ∷ 0 ∷ 0 ∷ []
-link_words (carries p left) = left ∷ packet_words p
+link_words Link.Free = 0 ∷ 0 ∷ 0 ∷ 0 ∷ 0 ∷ []
+link_words (Link.Carries p left) = left ∷ packet_words p
 
 -- How often the queues have turned, which is floor(now/D), of contents.
 unfoldable pub turns_of : Box → ℕ

@@ -13,4 +13,4 @@ tell_written-told-requires c =
 pub returns : goal.returns
 returns c =
     let w = c.write.ensures in
-    (tells plan_written w.answer (written_told _ c.tell_written-told.ensures), w.bytes)
+    (tells plan_written w.answer (written_told _ c.tell_written-told.ensures.plan), w.bytes)

@@ -1,6 +1,5 @@
 use mathlib.Core.Path.{◌≡◌, refl, sym, ◌∙◌}
 use mathlib.Core.Bool.{true, false}
-use borrow.Author.Tests.{not-true, not-false}
 use Rattle.meaning.specs.declared.Connection.{Connection}
 use Rattle.meaning.specs.Calls.{admission_answer, after_admission}
 use Rattle.words.specs.Contents.{contents}
@@ -15,7 +14,7 @@ returns-then-not-is_sound c =
     let i = c.is_sound in
     let ws = c.args.ws.now in
     let a : Connection = record { class = c.args.class; longest = c.args.longest; burst = c.args.burst; period = c.args.period } in
-    let e : sound_words ws ≡ false = sym i.ensures ∙ not-true i.result c.if-not-is_sound.true-raw in
+    let e : sound_words ws ≡ false = sym i.ensures ∙ c.if-not-is_sound.true in
     (rw e refl, unchanged ws (after_admission (contents ws) a (admission_answer (contents ws) a)) e)
 
 pub returns : goal.returns
@@ -25,7 +24,7 @@ returns c =
     let ws = c.args.ws.now in
     let a : Connection = record { class = c.args.class; longest = c.args.longest; burst = c.args.burst; period = c.args.period } in
     let m = c.admit_sound in
-    let e : sound_words ws ≡ true = sym i.ensures ∙ not-false i.result c.if-not-is_sound.false-raw in (
+    let e : sound_words ws ≡ true = sym i.ensures ∙ c.if-not-is_sound.false in (
       m.ensures.0 ∙ rw e refl,
       promised ws m.new.ws (after_admission (contents ws) a (admission_answer (contents ws) a)) e m.ensures.1,
     )

@@ -4,7 +4,6 @@ use native.Mathlib.Omega.{arith}
 use lib.ListN.{length}
 use Rattle.laws.specs.Search.{fails_at, holds}
 use Rattle.meaning.specs.declared.Refusal.{Refusal}
-use Rattle.meaning.specs.declared.Admitted.{Admitted}
 use Rattle.meaning.specs.Numbers.{most_connections}
 use Rattle.meaning.specs.Admission.{rate, finite_search}
 use Rattle.meaning.specs.Calls.{with_newcomer, search_answer, after_admission}
@@ -15,13 +14,14 @@ use Rattle.admission.specs.Asking.{search_of}
 use Rattle.multiplexer.proofs.Admits.{ready, standing_word, newcomer, settings_are}
 use Rattle.multiplexer.proofs.Admits.{answer_range, answer_full, answer_rate, answer_search, refused, taken}
 use Rattle.multiplexer.proofs.admitting.admit_sound.Goals as goal
+use Rattle.std.proofs.Common.{Ok, Err}
 
 pub returns-then-not-allowed : goal.returns-then-not-allowed
 unfolding after_admission
 returns-then-not-allowed c =
     let ws = c.args.ws.now in
     let e = sym c.allowed.ensures ∙ c.if-not-allowed.true in
-    refused ws c.args.c c.requires (Admitted.Refused Refusal.ConnectionOffRange)
+    refused ws c.args.c c.requires (Err Refusal.ConnectionOffRange)
     (answer_range (contents ws) c.args.c (sound_contents ws c.requires) e) refl
 
 pub standing_count-n-requires : goal.standing_count-n-requires
@@ -32,7 +32,7 @@ unfolding after_admission
 returns-then-n-ge32 c =
     let ws = c.args.ws.now in
     let many : most_connections ≤ length (contents ws).standing = omega (arith, c.standing_count-n.ensures, c.if-n-ge32.true) in
-    refused ws c.args.c c.requires (Admitted.Refused Refusal.TableFull)
+    refused ws c.args.c c.requires (Err Refusal.TableFull)
     (answer_full (contents ws) c.args.c (sound_contents ws c.requires) (sym c.allowed.ensures ∙ c.if-not-allowed.false) many) refl
 
 pub rate-sum-requires : goal.rate-sum-requires
@@ -52,7 +52,7 @@ returns-then-cycle-sum c =
     c.rate-sum.ensures ∙ ap₂ rate (settings_are ws) (newcomer ws c.args.c) in
     let high : (contents ws).settings.cycle < rate (contents ws).settings (with_newcomer (contents ws) c.args.c) =
     omega (arith, sum_is, c.cycle.ensures, c.if-cycle-sum.true) in
-    refused ws c.args.c c.requires (Admitted.Refused Refusal.RateExceeded)
+    refused ws c.args.c c.requires (Err Refusal.RateExceeded)
     (answer_rate (contents ws) c.args.c (sound_contents ws c.requires) (sym c.allowed.ensures ∙ c.if-not-allowed.false) (omega (arith, c.standing_count-n.ensures, c.if-n-ge32.false)) high) refl
 
 pub first_failing-found-requires : goal.first_failing-found-requires
@@ -73,7 +73,7 @@ returns-in-FailsAt c =
     let sum_is : c.rate-sum.result ≡ rate (contents ws).settings (with_newcomer (contents ws) c.args.c) =
     c.rate-sum.ensures ∙ ap₂ rate (settings_are ws) (newcomer ws c.args.c) in
     let e = c.in-FailsAt.is in
-    refused ws c.args.c c.requires (Admitted.Refused (Refusal.ConditionFails c.in-FailsAt.t))
+    refused ws c.args.c c.requires (Err (Refusal.ConditionFails c.in-FailsAt.t))
     (answer_search (contents ws) c.args.c (sound_contents ws c.requires) (fails_at c.in-FailsAt.t)
     (sym (ap search_of e) ∙ c.first_failing-found.ensures ∙ ap₂ finite_search (settings_are ws) (newcomer ws c.args.c)) (sym c.allowed.ensures ∙ c.if-not-allowed.false) (omega (arith, c.standing_count-n.ensures, c.if-n-ge32.false))
     (omega (arith, sum_is, c.cycle.ensures, c.if-cycle-sum.false))) refl
@@ -90,7 +90,7 @@ returns-in-Holds c =
     let row = c.fresh_row in
     let written = c.append_row in
     taken ws c.args.c c.requires written.new.ws (count.result + 1) row.result row.ensures
-    (ap Admitted.Taken one_more ∙
+    (ap Ok one_more ∙
     answer_search (contents ws) c.args.c (sound_contents ws c.requires) holds (sym (ap search_of e) ∙ c.first_failing-found.ensures ∙ ap₂ finite_search (settings_are ws) (newcomer ws c.args.c))
     (sym c.allowed.ensures ∙ c.if-not-allowed.false) (omega (arith, c.standing_count-n.ensures, c.if-n-ge32.false))
     (omega (arith, sum_is, c.cycle.ensures, c.if-cycle-sum.false)))

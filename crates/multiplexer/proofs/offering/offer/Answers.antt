@@ -1,6 +1,5 @@
 use mathlib.Core.Path.{◌≡◌, refl, sym, ◌∙◌}
 use mathlib.Core.Bool.{true, false}
-use borrow.Author.Tests.{not-true, not-false}
 use Rattle.meaning.specs.Calls.{offer_answer, after_offer}
 use Rattle.words.specs.Contents.{contents}
 use Rattle.words.specs.Sound.{sound_words}
@@ -13,7 +12,7 @@ unfolding offering words_offered
 returns-then-not-is_sound c =
     let i = c.is_sound in
     let ws = c.args.ws.now in
-    let e : sound_words ws ≡ false = sym i.ensures ∙ not-true i.result c.if-not-is_sound.true-raw in (
+    let e : sound_words ws ≡ false = sym i.ensures ∙ c.if-not-is_sound.true in (
       rw e refl,
       unchanged ws
           (after_offer (contents ws) c.args.n c.args.units (offer_answer (contents ws) c.args.n c.args.units)) e,
@@ -25,7 +24,7 @@ returns c =
     let i = c.is_sound in
     let ws = c.args.ws.now in
     let m = c.offer_sound in
-    let e : sound_words ws ≡ true = sym i.ensures ∙ not-false i.result c.if-not-is_sound.false-raw in (
+    let e : sound_words ws ≡ true = sym i.ensures ∙ c.if-not-is_sound.false in (
       m.ensures.0 ∙ rw e refl,
       promised ws m.new.ws
           (after_offer (contents ws) c.args.n c.args.units (offer_answer (contents ws) c.args.n c.args.units)) e

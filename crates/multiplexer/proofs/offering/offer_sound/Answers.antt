@@ -2,7 +2,6 @@ use mathlib.Core.Path.{refl, sym, ap, ap₂, subst, ◌∙◌}
 use native.Mathlib.Omega.{arith}
 use Rattle.laws.specs.Tests.{within}
 use Rattle.meaning.specs.declared.Refusal.{Refusal}
-use Rattle.meaning.specs.declared.Offered.{Offered}
 use Rattle.meaning.specs.Envelope.{conforms}
 use Rattle.meaning.specs.Calls.{after_offer}
 use Rattle.words.specs.Contents.{contents}
@@ -12,6 +11,7 @@ use Rattle.multiplexer.specs.Promised.{RowReady}
 use Rattle.multiplexer.proofs.Offers.{stands_as, number_within, row_ready, answer_unknown, answer_length, answer_unfit}
 use Rattle.multiplexer.proofs.Offers.{answer_full, answer_accepted, refused, taken}
 use Rattle.multiplexer.proofs.offering.offer_sound.Goals as goal
+use Rattle.std.proofs.Common.{Err}
 
 pub standing_count-requires : goal.standing_count-requires
 standing_count-requires c = sound_fitting c.args.ws.now c.requires
@@ -22,7 +22,7 @@ returns-then-not-is_within c =
     let ws = c.args.ws.now in
     let n = c.args.n in
     let units = c.args.units in
-    refused ws n units c.requires (Offered.Refused Refusal.NoConnection)
+    refused ws n units c.requires (Err Refusal.NoConnection)
     (answer_unknown (contents ws) n units (sound_contents ws c.requires)
     (stands_as (contents ws) n c.standing_count.result c.standing_count.ensures
     c.is_within.result c.is_within.ensures
@@ -46,7 +46,7 @@ returns-then-not-is_within-2 c =
     let n = c.args.n in
     let units = c.args.units in
     let row = c.read_row-row in
-    refused ws n units c.requires (Offered.Refused Refusal.WrongLength)
+    refused ws n units c.requires (Err Refusal.WrongLength)
     (answer_length (contents ws) n units (sound_contents ws c.requires)
     (stands_as (contents ws) n c.standing_count.result c.standing_count.ensures
     c.is_within.result c.is_within.ensures
@@ -77,7 +77,7 @@ returns-then-not-fits c =
     let n = c.args.n in
     let units = c.args.units in
     let row = c.read_row-row in
-    refused ws n units c.requires (Offered.Refused Refusal.NotFitting)
+    refused ws n units c.requires (Err Refusal.NotFitting)
     (answer_unfit (contents ws) n units (sound_contents ws c.requires)
     (stands_as (contents ws) n c.standing_count.result c.standing_count.ensures
     c.is_within.result c.is_within.ensures
@@ -99,7 +99,7 @@ returns-then-waiting_count-ge1024 c =
     let n = c.args.n in
     let units = c.args.units in
     let row = c.read_row-row in
-    refused ws n units c.requires (Offered.Refused Refusal.StoreFull)
+    refused ws n units c.requires (Err Refusal.StoreFull)
     (answer_full (contents ws) n units (sound_contents ws c.requires)
     (stands_as (contents ws) n c.standing_count.result c.standing_count.ensures
     c.is_within.result c.is_within.ensures

@@ -42,7 +42,7 @@ write_link-requires c =
     let k = head_facts ws c.args.tag c.requires.0 c.requires.1 c.requires.2 in
     let a = head_at ws c.args.tag place.result below.result place.ensures.0 below.ensures.0 in
     let u = ap (λ p. p.units) (head.ensures ∙ ap (packet_at ws) a) in
-    (c.behead.ensures.fitting, λ z. absurd (omega (arith, k.units, u)))
+    (c.behead.ensures.fitting, omega (arith, k.units, u))
 
 pub returns : goal.returns
 unfolding contents

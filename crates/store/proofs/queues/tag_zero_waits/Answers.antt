@@ -2,7 +2,7 @@ use Rattle.meaning.specs.Step.{queues_taken}
 use Rattle.meaning.specs.Queues.{tag_zero_waits}
 use lib.Dec.{ltb}
 use Rattle.store.proofs.QueueLaws.{zero_waits_taken, zero_waits}
-use Rattle.store.proofs.Loading.{link_free, link_busy}
+use Rattle.tables.proofs.LinkWritten.{link_free, link_busy}
 use Rattle.words.specs.Contents.{contents}
 use mathlib.Core.Path.{sym, ap, ◌∙◌}
 use Rattle.store.proofs.queues.tag_zero_waits.Goals as goal

@@ -1,4 +1,3 @@
-use Rattle.meaning.specs.declared.Opened.{Opened}
 use Rattle.meaning.specs.Numbers.{class_count}
 use lib.ListN.{length-set}
 use Rattle.tables.proofs.NewBox.{opening_writes}
@@ -11,6 +10,7 @@ use borrow.Author.Tests.{lt-ltb, le-ltb}
 use native.Mathlib.Omega.{arith}
 use mathlib.Core.Path.{◌≡◌, sym, ap, ◌∙◌}
 use Rattle.tables.proofs.opening.open.Goals as goal
+use Rattle.std.proofs.Common.{Ok}
 
 pub returns-then-not-settings_allowed : goal.returns-then-not-settings_allowed
 unfolding opened opening_answer after_opening
@@ -69,4 +69,4 @@ returns c =
     let w = c.write_factors.ensures ∙
     opening_writes a.d a.m a.factors.now a.ws.now c.clear.new.ws
     (settings_facts s e).classes_most c.clear.ensures in
-    simp (e, le-ltb _ _ c.if-ws-lt-BOX_WORDS.false) (ap (λ l. (Opened.Done, l)) w)
+    simp (e, le-ltb _ _ c.if-ws-lt-BOX_WORDS.false) (ap (λ l. ((Ok tt), l)) w)

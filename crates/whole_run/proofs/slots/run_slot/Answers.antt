@@ -1,7 +1,6 @@
 use native.Mathlib.Omega.{arith}
 use Rattle.words.specs.Contents.{contents}
 use Rattle.words.proofs.Counts.{sound_fitting}
-use Rattle.answers.proofs.Tells.{told_number}
 use Rattle.whole_run.proofs.SlotRun.{due_few, offers_room, step_room, slot_runs}
 use Rattle.whole_run.proofs.slots.run_slot.Goals as goal
 
@@ -23,8 +22,8 @@ offer_all-offered-requires c =
     a.out.now a.start c.requires.room in
     record { sound = (p.0, omega (arith, few)); room = room }
 
-pub print_stepped-at-requires : goal.print_stepped-at-requires
-print_stepped-at-requires c =
+pub print_stepped-requires : goal.print_stepped-requires
+print_stepped-requires c =
     let a = c.args in
     let p = c.requires.sound in
     let stretch = c.stretch-due in
@@ -56,8 +55,7 @@ returns c =
     let counter = c.counter-slot in
     let offers = c.offer_all-offered in
     let step = c.step_sound-answer in
-    let told = c.tell_stepped-told in
     slot_runs a.numbers.now a.table.now (contents a.ws.now) a.passed p.1 p.2 stretch.result.now counter.result
     stretch.ensures counter.ensures
-    a.out.now a.start c.requires.room offers.ensures step.result step.ensures.0 _ c.departed_by.result
-    step.ensures.1 c.print_stepped-at.ensures (told_number _ told.ensures) c.departed_by.ensures
+    a.out.now a.start c.requires.room offers.ensures step.result step.ensures.0
+    step.ensures.1 c.print_stepped.ensures

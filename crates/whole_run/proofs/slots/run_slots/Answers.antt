@@ -22,40 +22,40 @@ run_slot-slot-requires c =
       room = slot_room c.requires.room g (sym c.is_finished.ensures ∙ c.loop-ws-test.true);
     }
 
-pub put_stop-requires : goal.put_stop-requires
-put_stop-requires c =
+pub put-requires : goal.put-requires
+put-requires c =
     stop_room c.requires.room c.loop-ws.invariant.2 (sym c.is_finished.ensures ∙ c.loop-ws-test.true)
-    c.run_slot-slot.ensures c.if-slot-ne0.true
+    c.run_slot-slot.ensures _ c.in-Err.is _ c.from.ensures
 
-pub shape_of-ws-then-slot-ne0 : goal.shape_of-ws-then-slot-ne0
-shape_of-ws-then-slot-ne0 c =
+pub shape_of-ws-in-Err : goal.shape_of-ws-in-Err
+shape_of-ws-in-Err c =
     omega (arith, c.run_slot-slot.auto.ws, c.loop-ws.invariant.0)
 
-pub shape_of-out-then-slot-ne0 : goal.shape_of-out-then-slot-ne0
-shape_of-out-then-slot-ne0 c =
-    omega (arith, c.put_stop.auto.out, c.run_slot-slot.auto.out, c.loop-ws.invariant.1)
+pub shape_of-out-in-Err : goal.shape_of-out-in-Err
+shape_of-out-in-Err c =
+    omega (arith, c.put.auto.out, c.run_slot-slot.auto.out, c.loop-ws.invariant.1)
 
-pub returns-then-slot-ne0 : goal.returns-then-slot-ne0
-returns-then-slot-ne0 c =
+pub returns-in-Err : goal.returns-in-Err
+returns-in-Err c =
     stop_put c.requires.room c.loop-ws.invariant.2 (sym c.is_finished.ensures ∙ c.loop-ws-test.true)
-    c.run_slot-slot.ensures c.if-slot-ne0.true c.put_stop.ensures
+    c.run_slot-slot.ensures _ c.in-Err.is _ c.from.ensures c.put.ensures
 
 pub overflow_add-departed : goal.overflow_add-departed
 overflow_add-departed c =
     let d = departed_fits c.requires.room c.loop-ws.invariant.2 (sym c.is_finished.ensures ∙ c.loop-ws-test.true)
-    c.run_slot-slot.ensures c.if-slot-ne0.false in
+    c.run_slot-slot.ensures c.in_default.not-Err _ c.departed_by-departed.ensures in
     omega (arith, d)
 
 pub pass_idle-requires : goal.pass_idle-requires
 pass_idle-requires c =
     let g = going_on c.requires.room c.loop-ws.invariant.2 (sym c.is_finished.ensures ∙ c.loop-ws-test.true)
-    c.run_slot-slot.ensures c.if-slot-ne0.false in
+    c.run_slot-slot.ensures c.in_default.not-Err _ c.departed_by-departed.ensures in
     (g.still_sound, g.walked, c.requires.sound.2)
 
 pub loop-ws-smaller : goal.loop-ws-smaller
 loop-ws-smaller c =
     let less = falls c.requires.room c.loop-ws.invariant.2 (sym c.is_finished.ensures ∙ c.loop-ws-test.true)
-    c.run_slot-slot.ensures c.if-slot-ne0.false in
+    c.run_slot-slot.ensures c.in_default.not-Err _ c.departed_by-departed.ensures in
     omega (arith, less, c.pass_idle.ensures.no_more)
 
 pub loop-ws-preserved : goal.loop-ws-preserved
@@ -65,20 +65,20 @@ loop-ws-preserved c =
       omega (arith, idle.auto.ws, c.run_slot-slot.auto.ws, i.0),
       omega (arith, c.run_slot-slot.auto.out, i.1),
       going_later (going_on c.requires.room i.2 (sym c.is_finished.ensures ∙ c.loop-ws-test.true)
-          c.run_slot-slot.ensures c.if-slot-ne0.false) idle.ensures,
+          c.run_slot-slot.ensures c.in_default.not-Err _ c.departed_by-departed.ensures) idle.ensures,
     )
 
-pub counter-requires : goal.counter-requires
-counter-requires c = sound_fitting _ c.loop-ws.invariant.2.still_sound
+pub counter-counter-requires : goal.counter-counter-requires
+counter-counter-requires c = sound_fitting _ c.loop-ws.invariant.2.still_sound
 
-pub accepted-requires : goal.accepted-requires
-accepted-requires c =
+pub accepted-accepted-requires : goal.accepted-accepted-requires
+accepted-accepted-requires c =
     sound_fitting _ c.loop-ws.invariant.2.still_sound
 
-pub put_end-requires : goal.put_end-requires
-put_end-requires c =
+pub put-requires-2 : goal.put-requires-2
+put-requires-2 c =
     end_room c.requires.room c.loop-ws.invariant.2 (sym c.is_finished.ensures ∙ c.loop-ws-test.false) _ _
-    c.counter.ensures c.accepted.ensures
+    c.counter-counter.ensures c.accepted-accepted.ensures
 
 pub shape_of-ws : goal.shape_of-ws
 shape_of-ws c =
@@ -86,9 +86,9 @@ shape_of-ws c =
 
 pub shape_of-out : goal.shape_of-out
 shape_of-out c =
-    omega (arith, c.put_end.auto.out, c.loop-ws.invariant.1)
+    omega (arith, c.put-2.auto.out, c.loop-ws.invariant.1)
 
 pub returns : goal.returns
 returns c =
     end_put c.requires.room c.loop-ws.invariant.2 (sym c.is_finished.ensures ∙ c.loop-ws-test.false) _ _
-    c.counter.ensures c.accepted.ensures c.put_end.ensures
+    c.counter-counter.ensures c.accepted-accepted.ensures c.put-2.ensures
