@@ -1,10 +1,11 @@
 // One line of output into a lent buffer: a fixed word and its numbers. Document 01, "The program and one whole run".
 #![tactic(auto)]
 
-ghost use Rattle.std.specs.Prelude.{◌≡◌, ◌+◌, ◌<◌};
-ghost use Rattle.meaning.specs.Lines.{decimal, line_text};
+ghost use Rattle.std.specs.Prelude.{◌≡◌, ◌<◌};
+ghost use Rattle.meaning.specs.Lines.{line_text};
 ghost use Rattle.lines.specs.Put.{Put, Room, field, byte_after, fields, line as numbered};
 
+use itoa::Buffer;
 use meaning::Line;
 
 // The bytes of s, from `at` on.
@@ -12,34 +13,18 @@ fn put_bytes(out: &mut [u8], at: usize, s: &[u8]) -> usize
     requires { Room out.old at s.now }
     ensures { Put out.old out.new at s.now result }
 {
-    let mut i = 0;
-    while i < s.len() {
-        out[at + i] = s[i];
-        i += 1;
-    }
-    at + i
+    let end = at + s.len();
+    out[at..end].copy_from_slice(s);
+    end
 }
 
-// The number n, most significant digit first with no leading zeros: the digits of n divided by ten, then the last digit.
-fn put_number(out: &mut [u8], at: usize, n: u32) -> usize
-    requires { Room out.old at (decimal n) }
-    ensures { Put out.old out.new at (decimal n) result }
-{
-    if n < 10 {
-        out[at] = 48 + n as u8;
-        return at + 1;
-    }
-    let last = put_number(out, at, n / 10);
-    out[last] = 48 + (n % 10) as u8;
-    last + 1
-}
-
-// The number n and the byte after it.
+// The number n in decimal, and the byte after it.
 fn put_field(out: &mut [u8], at: usize, n: u32, after: u8) -> usize
     requires { Room out.old at (field n after) }
     ensures { Put out.old out.new at (field n after) result }
 {
-    let last = put_number(out, at, n);
+    let mut digits = Buffer::new();
+    let last = put_bytes(out, at, digits.format(n).as_bytes());
     out[last] = after;
     last + 1
 }
@@ -49,7 +34,7 @@ fn byte_after(i: usize, count: usize) -> u8
     requires { i < count }
     ensures { result ≡ byte_after i count }
 {
-    if i + 1 < count { 32 } else { 10 }
+    if i + 1 < count { b' ' } else { b'\n' }
 }
 
 // The numbers, each with the byte after it.
@@ -58,10 +43,8 @@ fn put_fields(out: &mut [u8], at: usize, numbers: &[u32]) -> usize
     ensures { Put out.old out.new at (fields numbers.now) result }
 {
     let mut next = at;
-    let mut i = 0;
-    while i < numbers.len() {
-        next = put_field(out, next, numbers[i], byte_after(i, numbers.len()));
-        i += 1;
+    for (i, n) in numbers.iter().enumerate() {
+        next = put_field(out, next, *n, byte_after(i, numbers.len()));
     }
     next
 }

@@ -23,10 +23,8 @@ use tables::opening::open;
 fn copy_factors(classes: &[u8], factors: &mut [u32])
     ensures { factors.new ≡ table factor_at 1 (words_of classes.now) 0 (length factors.old) }
 {
-    let mut i: usize = 0;
-    while i < factors.len() {
-        factors[i] = factor(classes, i);
-        i += 1;
+    for (i, f) in factors.iter_mut().enumerate() {
+        *f = factor(classes, i);
     }
 }
 

@@ -3,14 +3,14 @@ use native.Mathlib.Omega.{arith}
 use mathlib.Core.List.{[], ◌++◌}
 use lib.ListN.{get_or, drop}
 use Rattle.lines.specs.Put.{field, fields}
-use Rattle.lines.proofs.Reached.{reached_start, reached_as, reached_next, reached_on, reached_end, reached_length}
+use Rattle.lines.proofs.Reached.{reached_start, reached_as, reached_next, reached_on, reached_end}
 use Rattle.lines.proofs.Texts.{fields_from, no_fields}
 use Rattle.lines.proofs.put_fields.Goals as goal
 
 pub loop-i-init : goal.loop-i-init
 loop-i-init c =
     let a = c.args in
-    (omega arith, reached_start a.out.now a.at (fields a.numbers.now))
+    reached_start a.out.now a.at (fields a.numbers.now)
 
 pub put_field-next-requires : goal.put_field-next-requires
 put_field-next-requires c =
@@ -19,7 +19,7 @@ put_field-next-requires c =
     let piece = field (get_or numbers l.i 0) c.byte_after.result in
     let rest = fields (drop (l.i + 1) numbers) in
     reached_next piece rest c.requires
-    (reached_as (piece ++ rest) (fields_from numbers l.i c.byte_after.result (omega arith) c.byte_after.ensures) l.invariant.1)
+    (reached_as (piece ++ rest) (fields_from numbers l.i c.byte_after.result (omega arith) c.byte_after.ensures) l.invariant)
 
 pub loop-i-preserved : goal.loop-i-preserved
 loop-i-preserved c =
@@ -27,19 +27,13 @@ loop-i-preserved c =
     let byte = c.byte_after in
     let numbers = c.args.numbers.now in
     let piece = field (get_or numbers l.i 0) byte.result in
-    let rest = fields (drop (l.i + 1) numbers) in (
-      omega arith,
-      reached_on piece rest c.requires
-          (reached_as (piece ++ rest) (fields_from numbers l.i byte.result (omega arith) byte.ensures) l.invariant.1)
-          c.put_field-next.ensures,
-    )
-
-pub shape_of-out : goal.shape_of-out
-shape_of-out c =
-    reached_length c.requires c.loop-i.invariant.1
+    let rest = fields (drop (l.i + 1) numbers) in
+    reached_on piece rest c.requires
+    (reached_as (piece ++ rest) (fields_from numbers l.i byte.result (omega arith) byte.ensures) l.invariant)
+    c.put_field-next.ensures
 
 pub returns : goal.returns
 returns c =
     let l = c.loop-i in
     let numbers = c.args.numbers.now in
-    reached_end (reached_as [] (no_fields numbers l.i (omega arith)) l.invariant.1)
+    reached_end (reached_as [] (no_fields numbers l.i (omega arith)) l.invariant)
