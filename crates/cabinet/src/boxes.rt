@@ -28,8 +28,8 @@ pub extern "C" fn zeppilorn_open(
 ) -> u32
     ensures { OpenPromise words.old interval cycle factors.now result words.new }
 {
-    let told = tell_opened(open(words, interval, cycle, factors));
-    told[0]
+    let [answer] = tell_opened(open(words, interval, cycle, factors));
+    answer
 }
 
 // Tests the lent words: 0 where they are sound, else 1.
@@ -57,9 +57,9 @@ pub extern "C" fn zeppilorn_admit(
     ensures { AdmitPromise words.old (record { class = class; longest = longest; burst = burst; period = period }) result
         fields.new words.new }
 {
-    let told = tell_admitted(admit(words, class, longest, burst, period));
-    *fields = [told[1], told[2]];
-    told[0]
+    let [answer, number, t] = tell_admitted(admit(words, class, longest, burst, period));
+    *fields = [number, t];
+    answer
 }
 
 // Offers a packet: 0, 1, 7, 8, 9 or 10.
@@ -72,9 +72,9 @@ pub extern "C" fn zeppilorn_offer(
 ) -> u32
     ensures { OfferPromise words.old connection units result fields.new words.new }
 {
-    let told = tell_offered(offer(words, connection, units));
-    *fields = [told[1]];
-    told[0]
+    let [answer, serial] = tell_offered(offer(words, connection, units));
+    *fields = [serial];
+    answer
 }
 
 // One step: 0, 1, 12 or 11.
@@ -82,7 +82,7 @@ pub extern "C" fn zeppilorn_offer(
 pub extern "C" fn zeppilorn_step(words: &mut [u32], fields: &mut [u32; 5]) -> u32
     ensures { StepPromise words.old result fields.new words.new }
 {
-    let told = tell_stepped(step(words));
-    *fields = [told[1], told[2], told[3], told[4], told[5]];
-    told[0]
+    let [answer, serial, left, connection, arrival, departure] = tell_stepped(step(words));
+    *fields = [serial, left, connection, arrival, departure];
+    answer
 }

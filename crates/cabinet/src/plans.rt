@@ -12,11 +12,28 @@ use plan_writer::writing::write;
 pub extern "C" fn zeppilorn_read_plan(plan: &[u8], fields: &mut [u32; 8]) -> u32
     ensures { ReadPromise plan.now result fields.new }
 {
-    let told = tell_read(read(plan));
+    let [
+        answer,
+        interval,
+        cycle,
+        classes,
+        classes_at,
+        connections,
+        connections_at,
+        arrivals,
+        arrivals_at,
+    ] = tell_read(read(plan));
     *fields = [
-        told[1], told[2], told[3], told[4], told[5], told[6], told[7], told[8],
+        interval,
+        cycle,
+        classes,
+        classes_at,
+        connections,
+        connections_at,
+        arrivals,
+        arrivals_at,
     ];
-    told[0]
+    answer
 }
 
 // A factor of a class table, counted from 0; 0 past its end.
@@ -88,7 +105,7 @@ pub extern "C" fn zeppilorn_write_plan(
     ensures { WritePromise (lent interval cycle factors.now connections.now arrivals.now)
         plan.old result fields.new plan.new }
 {
-    let told = tell_written(write(interval, cycle, factors, connections, arrivals, plan));
-    *fields = [told[1]];
-    told[0]
+    let [answer, size] = tell_written(write(interval, cycle, factors, connections, arrivals, plan));
+    *fields = [size];
+    answer
 }

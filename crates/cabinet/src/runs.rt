@@ -10,7 +10,7 @@ use whole_run::running::run_plan;
 pub extern "C" fn zeppilorn_run_plan(plan: &[u8], text: &mut [u8], fields: &mut [u32; 1]) -> u32
     ensures { RunPromise plan.now text.old result fields.new text.new }
 {
-    let told = tell_written(run_plan(plan, text));
-    *fields = [told[1]];
-    told[0]
+    let [answer, size] = tell_written(run_plan(plan, text));
+    *fields = [size];
+    answer
 }

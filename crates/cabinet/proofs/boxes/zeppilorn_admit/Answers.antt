@@ -6,4 +6,4 @@ use Rattle.cabinet.proofs.boxes.zeppilorn_admit.Goals as goal
 pub returns : goal.returns
 returns c =
     let a = c.admit.ensures in
-    (tells admitted a.0 (admitted_told _ c.tell_admitted-told.ensures), a.1)
+    (tells admitted a.0 (admitted_told _ c.tell_admitted.ensures), a.1)

@@ -6,4 +6,4 @@ use Rattle.cabinet.proofs.boxes.zeppilorn_offer.Goals as goal
 pub returns : goal.returns
 returns c =
     let a = c.offer.ensures in
-    (tells offered a.0 (offered_told _ c.tell_offered-told.ensures), a.1)
+    (tells offered a.0 (offered_told _ c.tell_offered.ensures), a.1)

@@ -7,4 +7,4 @@ use Rattle.cabinet.proofs.boxes.zeppilorn_open.Goals as goal
 pub returns : goal.returns
 returns c =
     let a = c.open.ensures in
-    (tells opened (ap (λ p. p.0) a) (opened_told _ c.tell_opened-told.ensures), ap (λ p. p.1) a)
+    (tells opened (ap (λ p. p.0) a) (opened_told _ c.tell_opened.ensures), ap (λ p. p.1) a)

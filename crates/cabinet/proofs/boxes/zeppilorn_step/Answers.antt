@@ -6,4 +6,4 @@ use Rattle.cabinet.proofs.boxes.zeppilorn_step.Goals as goal
 pub returns : goal.returns
 returns c =
     let a = c.step.ensures in
-    (tells stepped a.0 (stepped_told _ c.tell_stepped-told.ensures), a.1)
+    (tells stepped a.0 (stepped_told _ c.tell_stepped.ensures), a.1)
