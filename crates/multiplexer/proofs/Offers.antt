@@ -12,7 +12,7 @@ use Rattle.meaning.specs.declared.Refusal.{Refusal}
 use Rattle.meaning.specs.declared.Offered.{Offered}
 use Rattle.meaning.specs.Numbers.{factor, largest_factor, most_waiting}
 use Rattle.meaning.specs.declared.Allowance.{Allowance}
-use Rattle.meaning.specs.Envelope.{full, came_back, refilled, conforms, charged, allowance_kept}
+use Rattle.meaning.specs.Envelope.{conforms, charged, allowance_kept}
 use Rattle.meaning.specs.Queues.{join_tail}
 use Rattle.meaning.specs.declared.Packet.{Packet}
 use Rattle.meaning.specs.Box.{Box, Link, free, carries, connection, stands, waiting, on_link, packets, sound}
@@ -32,39 +32,9 @@ use Rattle.words.proofs.PutContents.{row_count}
 use Rattle.words.proofs.TestedSound.{sound_contents}
 use Rattle.words.proofs.Becoming.{become_then}
 use Rattle.admission.proofs.Tables.{class_count_lem}
-use Rattle.envelope.specs.Record.{sender, Ready}
-use Rattle.multiplexer.specs.Promised.{Leaves, RowReady, Acceptable, accepted_box}
+use Rattle.envelope.specs.Record.{Ready}
+use Rattle.multiplexer.specs.Promised.{Leaves, Acceptable, accepted_box}
 use Rattle.multiplexer.proofs.Sounds.{facts, leaves_same, leaves}
-
--- The envelope uses only the burst and the period of a connection.
-pub conforms_same : (row : Standing) (a : Allowance) (slot : ℕ)
-    → conforms (sender row.asked.burst row.asked.period) a slot ≡ conforms row.asked a slot
-unfolding conforms refilled came_back full
-conforms_same row a slot = refl
-
--- Charging an allowance uses of a row only b and T.
-pub charged_same : (row : Standing) (a : Allowance) (slot : ℕ)
-    → charged (sender row.asked.burst row.asked.period) a slot ≡ charged row.asked a slot
-unfolding charged refilled came_back full
-charged_same row a slot = refl
-
--- So is the range of the allowance.
-kept_same : (row : Standing) (a : Allowance) (slot : ℕ)
-    → allowance_kept (sender row.asked.burst row.asked.period) slot a ≡ allowance_kept row.asked slot a
-unfolding allowance_kept
-kept_same row a slot = refl
-
--- What the envelope's functions ask of a row.
-pub envelope_ready : (row : Standing) (slot : ℕ) → RowReady row slot → Ready row.asked.burst row.asked.period row.allowance slot
-envelope_ready row slot r =
-    record {
-      burst_least = r.burst_least;
-      burst_most = r.burst_most;
-      period_least = r.period_least;
-      period_most = r.period_most;
-      slot_most = r.slot_most;
-      kept = kept_same row row.allowance slot ∙ r.kept;
-    }
 
 -- The row of a connection that stands.
 module _ (ws : List ℕ) (n : ℕ) (row : Standing) (h : sound_words ws ≡ true) (s : stands (contents ws) n ≡ true)
@@ -75,13 +45,12 @@ module _ (ws : List ℕ) (n : ℕ) (row : Standing) (h : sound_words ws ≡ true
     row_facts = subst (ConnectionFacts (contents ws).settings) asked (asked_allowed (contents ws) n (facts ws h) s)
 
     -- The row of a connection that stands is ready to be charged at this slot.
-    pub row_ready : RowReady row (contents ws).counter
+    pub row_ready : Ready row (contents ws).counter
     row_ready =
         let f = row_facts in
         let m = (settings_facts (contents ws).settings (facts ws h).settings_allowed_lem).cycle_most in
         let p = f.period_most in
         record {
-          burst_least = f.burst_least;
           burst_most = f.burst_most;
           period_least = f.period_least;
           period_most = omega arith;

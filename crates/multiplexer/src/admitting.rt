@@ -1,13 +1,13 @@
 // Admission. Document 01, "Admission".
 ghost use Rattle.std.specs.Prelude.{◌≡◌, true};
 ghost use Rattle.meaning.specs.Numbers.{connection_allowed};
-ghost use Rattle.meaning.specs.Envelope.{full};
 ghost use Rattle.words.specs.Contents.{contents};
 ghost use Rattle.words.specs.Sound.{sound_words};
 ghost use Rattle.multiplexer.specs.Promises.{AdmitPromise, AdmitSoundPromise};
 
 use admission::{Found, first_failing, rate};
-use meaning::{Admitted, Allowance, Connection, Refusal, Standing};
+use envelope::fresh;
+use meaning::{Admitted, Connection, Refusal, Standing};
 use soundness::testing::is_sound;
 use tables::rows::{append_row, standing_count};
 use tables::settings::{class_count, cycle};
@@ -54,22 +54,15 @@ pub fn admit_sound(ws: &mut [u32], c: Connection) -> Admitted
     match found {
         Found::FailsAt(t) => Admitted::Refused(Refusal::ConditionFails(t)),
         Found::Holds => {
-            append_row(ws, fresh_row(c));
+            append_row(
+                ws,
+                Standing {
+                    asked: c,
+                    allowance: fresh(c),
+                },
+            );
             Admitted::Taken(n + 1)
         }
-    }
-}
-
-// The row of a connection that is taken: what it asked for, with all its credits.
-fn fresh_row(c: Connection) -> Standing
-    ensures { result ≡ record { asked = c; allowance = full c } }
-{
-    Standing {
-        asked: c,
-        allowance: Allowance {
-            next: 0,
-            credit: c.burst,
-        },
     }
 }
 

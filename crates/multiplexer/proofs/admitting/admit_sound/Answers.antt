@@ -5,6 +5,7 @@ use lib.ListN.{length}
 use Rattle.laws.specs.Search.{fails_at, holds}
 use Rattle.meaning.specs.declared.Refusal.{Refusal}
 use Rattle.meaning.specs.declared.Admitted.{Admitted}
+use Rattle.meaning.specs.declared.Standing.{Standing}
 use Rattle.meaning.specs.Numbers.{most_connections}
 use Rattle.meaning.specs.Admission.{rate, finite_search}
 use Rattle.meaning.specs.Calls.{with_newcomer, search_answer, after_admission}
@@ -87,9 +88,9 @@ returns-in-Holds c =
     let count = c.standing_count-n in
     let e = c.in-Holds.is in
     let one_more : count.result + 1 ≡ suc (length (contents ws).standing) = omega (arith, count.ensures) in
-    let row = c.fresh_row in
+    let row : Standing = record { asked = c.args.c; allowance = c.fresh.result } in
     let written = c.append_row in
-    taken ws c.args.c c.requires written.new.ws (count.result + 1) row.result row.ensures
+    taken ws c.args.c c.requires written.new.ws (count.result + 1) row (ap (λ a. record { asked = c.args.c; allowance = a }) c.fresh.ensures)
     (ap Admitted.Taken one_more ∙
     answer_search (contents ws) c.args.c (sound_contents ws c.requires) holds (sym (ap search_of e) ∙ c.first_failing-found.ensures ∙ ap₂ finite_search (settings_are ws) (newcomer ws c.args.c))
     (sym c.allowed.ensures ∙ c.if-not-allowed.false) (omega (arith, c.standing_count-n.ensures, c.if-n-ge32.false))
