@@ -5,7 +5,7 @@ ghost use Rattle.words.specs.Contents.{contents};
 ghost use Rattle.words.specs.Sound.{sound_words};
 ghost use Rattle.multiplexer.specs.Promises.{AdmitPromise, AdmitSoundPromise};
 
-use admission::{Found, first_failing, rate};
+use admission::Asking;
 use envelope::fresh;
 use meaning::{Admitted, Connection, Refusal, Standing};
 use soundness::testing::is_sound;
@@ -46,24 +46,21 @@ pub fn admit_sound(ws: &mut [u32], c: Connection) -> Admitted
     if 32 <= n {
         return Admitted::Refused(Refusal::TableFull);
     }
-    let sum = rate(ws, c);
-    if cycle(ws) < sum {
+    let asking = Asking { ws, newcomer: c };
+    if cycle(ws) < asking.rate() {
         return Admitted::Refused(Refusal::RateExceeded);
     }
-    let found = first_failing(ws, c);
-    match found {
-        Found::FailsAt(t) => Admitted::Refused(Refusal::ConditionFails(t)),
-        Found::Holds => {
-            append_row(
-                ws,
-                Standing {
-                    asked: c,
-                    allowance: fresh(c),
-                },
-            );
-            Admitted::Taken(n + 1)
-        }
+    if let Some(t) = asking.first_failing() {
+        return Admitted::Refused(Refusal::ConditionFails(t));
     }
+    append_row(
+        ws,
+        Standing {
+            asked: c,
+            allowance: fresh(c),
+        },
+    );
+    Admitted::Taken(n + 1)
 }
 
 // Admission: "Admission: 1, 3, 4, 5, 6".
