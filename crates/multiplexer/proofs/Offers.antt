@@ -27,7 +27,7 @@ use Rattle.words.specs.Sound.{Fitting, sound_words}
 use Rattle.words.specs.Changes.{Become}
 use Rattle.store.specs.StoreChanges.{with_queues}
 use Rattle.tables.specs.TableChanges.{with_accepted}
-use Rattle.words.proofs.Counts.{waiting_count}
+use Rattle.words.proofs.Counts.{waiting_count, sound_fitting}
 use Rattle.words.proofs.PutContents.{row_count}
 use Rattle.words.proofs.TestedSound.{sound_contents}
 use Rattle.words.proofs.Becoming.{become_then}
@@ -266,3 +266,6 @@ module _ (ws : List ℕ) (n units : ℕ) (h : sound_words ws ≡ true) where
         (offer_keeps_sound (contents ws) n units (sound_contents ws h))
         (subst (Become ws after) (ap (after_offer (contents ws) n units) e) b),
   )
+
+-- What an acceptance goes by.
+pub ruleset accepting = (sound_fitting, accepted_most, number_within)

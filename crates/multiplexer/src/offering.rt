@@ -17,6 +17,7 @@ use tables::settings::class_factor;
 use words::numbers::{is_within, wide};
 
 // The factor of a connection's class: the tag of the queue that its packets join.
+#[tactic(auto, using(words::proofs::Counts::sound_fitting, crate::proofs::Offers::tag_most))]
 fn tag_of(ws: &[u32], class: u32) -> usize
     requires { (sound_words ws.now ≡ true) × ((1 ≤ class) × (class ≤ word ws.now classes_at)) }
     ensures { TagOf (contents ws.now) class result }
@@ -25,6 +26,7 @@ fn tag_of(ws: &[u32], class: u32) -> usize
 }
 
 // The packet is accepted: its connection is charged once, it joins the tail of its queue, and it is counted.
+#[tactic(auto, using(crate::proofs::Offers::accepting))]
 fn accept(ws: &mut [u32], n: u32, units: u32, mut row: Standing) -> u32
     requires { Acceptable ws.old n units row }
     ensures { Accepts ws.old n units result ws.new }

@@ -1,26 +1,14 @@
 use mathlib.Core.Path.{◌≡◌, ap, subst, ◌∙◌}
 use native.Mathlib.Numerals.{add-one}
 use Prim.Native.Nat.{suc}
-use native.Mathlib.Omega.{arith}
 use Rattle.meaning.specs.declared.Standing.{Standing}
 use Rattle.meaning.specs.Envelope.{charged as charged_is}
 use Rattle.meaning.specs.Queues.{join_tail}
 use Rattle.words.specs.Contents.{contents}
 use Rattle.words.specs.Changes.{Become}
 use Rattle.store.specs.StoreChanges.{with_queues}
-use Rattle.words.proofs.Counts.{sound_fitting}
-use Rattle.multiplexer.proofs.Offers.{packet_is, row_ready, class_within, accepted_most, number_within, join_ready, count_ready, accepted_becomes}
+use Rattle.multiplexer.proofs.Offers.{packet_is, row_ready, class_within, join_ready, count_ready, accepted_becomes}
 use Rattle.multiplexer.proofs.offering.accept.Goals as goal
-
-pub counter-slot-requires : goal.counter-slot-requires
-counter-slot-requires c = sound_fitting c.args.ws.now c.requires.sound_words_lem
-
-pub accepted-serial-requires : goal.accepted-serial-requires
-accepted-serial-requires c = sound_fitting c.args.ws.now c.requires.sound_words_lem
-
-pub overflow_add-serial : goal.overflow_add-serial
-overflow_add-serial c =
-    omega (arith, c.accepted-serial.ensures, accepted_most c.args.ws.now c.requires.sound_words_lem)
 
 pub tag_of-tag-requires : goal.tag_of-tag-requires
 tag_of-tag-requires c =
@@ -35,13 +23,6 @@ charge-requires c =
     let row = c.args.row in
     let r = row_ready ws c.args.n row ok.sound_words_lem ok.number_stands ok.row_asked ok.row_allowance in
     rw c.counter-slot.ensures (r, ok.fit)
-
-pub write_allowance-requires : goal.write_allowance-requires
-write_allowance-requires c =
-    let ws = c.args.ws.now in
-    let ok = c.requires in
-    let k = number_within ws c.args.n ok.number_stands in
-    (sound_fitting ws ok.sound_words_lem, k.0, k.1)
 
 pub join-requires : goal.join-requires
 join-requires c =
