@@ -5,21 +5,15 @@ use mathlib.Core.List.{List}
 use lib.ListN.{length}
 use native.Mathlib.Nat.{mul-le-mul_right, mul-le-mul, div-le_self}
 use native.Mathlib.Omega.{arith}
-use Rattle.laws.specs.Series.{length_series}
 use Rattle.meaning.specs.declared.Connection.{Connection}
 use Rattle.meaning.specs.Numbers.{class_count, largest_factor, bound, largest_bound}
 use Rattle.meaning.specs.Envelope.{may_have, envelope}
 use Rattle.meaning.proofs.Facts.{SettingsFacts, settings_facts, connection_facts}
 use Rattle.meaning.proofs.KeptByOffer.{factor_within}
-use Rattle.words.specs.Places.{word, classes_at, factors_at}
+use Rattle.words.specs.Places.{word, classes_at}
 use Rattle.words.specs.Contents.{asked_at, contents, settings_at}
-use Rattle.words.proofs.Readings.{standing_word}
+use Rattle.words.proofs.Readings.{classes_word, standing_word}
 use Rattle.admission.specs.Asking.{Ready, Allowed, Small}
-
--- The number of classes is the word at its place.
-pub class_count_lem : (ws : List ℕ) → class_count (settings_at ws) ≡ word ws classes_at
-unfolding class_count settings_at
-class_count_lem ws = length_series (λ i. word ws i) 1 factors_at (word ws classes_at)
 
 -- The settings in ready words keep the table of numbers.
 pub facts : (ws : List ℕ) → Ready ws → SettingsFacts (settings_at ws)
@@ -27,16 +21,16 @@ facts ws r = settings_facts (settings_at ws) r.settings
 
 -- The bound of every class is at most 1,024.
 pub bound_most : (ws : List ℕ) (k : ℕ) → Ready ws → 1 ≤ k → k ≤ word ws classes_at → bound (settings_at ws) k ≤ 1024
-unfolding bound largest_bound largest_factor
+unfolding bound largest_bound largest_factor contents
 bound_most ws k r h l =
     let f = facts ws r in
-    let c = class_count_lem ws in
+    let c = classes_word ws in
     let m = mul-le-mul_right (settings_at ws).interval (factor_within (settings_at ws) k f h (omega arith)) in
     let b = f.bound_most in
     omega arith
 
 -- What there is to say of a class.
-pub ruleset classes = (class_count_lem, bound_most)
+pub ruleset classes = (classes_word, bound_most)
 
 -- An allowed connection's numbers are small enough for the sums.
 pub asked_small : (ws : List ℕ) (c : Connection) → Allowed ws c → Small c

@@ -29,9 +29,9 @@ use Rattle.store.specs.StoreChanges.{with_queues}
 use Rattle.tables.specs.TableChanges.{with_accepted}
 use Rattle.words.proofs.Counts.{waiting_count, sound_fitting}
 use Rattle.words.proofs.PutContents.{row_count}
+use Rattle.words.proofs.Readings.{classes_word, accepted_word}
 use Rattle.words.proofs.TestedSound.{sound_contents}
 use Rattle.words.proofs.Becoming.{become_then}
-use Rattle.admission.proofs.Tables.{class_count_lem}
 use Rattle.envelope.specs.Record.{Ready}
 use Rattle.multiplexer.specs.Promised.{Leaves, Acceptable, accepted_box}
 use Rattle.multiplexer.proofs.Sounds.{facts, leaves_same, leaves}
@@ -65,7 +65,7 @@ module _ (ws : List ℕ) (n : ℕ) (row : Standing) (h : sound_words ws ≡ true
     unfolding contents
     class_within =
         let f = row_facts in
-        let k = class_count_lem ws in
+        let k = classes_word ws in
         let c = f.class_most in
         (f.class_least, omega arith)
 
@@ -82,7 +82,7 @@ pub tag_most : (ws : List ℕ) (class : ℕ) → sound_words ws ≡ true → 1 �
     → factor (contents ws).settings class ≤ largest_factor (contents ws).settings
 unfolding contents
 tag_most ws class h a b =
-    let k = class_count_lem ws in
+    let k = classes_word ws in
     factor_within (settings_at ws) class (settings_facts (settings_at ws) (facts ws h).settings_allowed_lem) a (omega arith)
 
 -- The count of accepted packets of sound words is far below 2^32.
@@ -100,11 +100,6 @@ accepted_most ws h =
     on_link_lem : (l : Link) → length (on_link l) ≤ 1
     on_link_lem free = omega arith
     on_link_lem (carries p left) = omega arith
-
--- The word of the count of accepted packets.
-accepted_word : (ws : List ℕ) → word ws accepted_at ≡ (contents ws).accepted
-unfolding contents
-accepted_word ws = refl
 
 -- The three changes of an acceptance: the allowance a is written, the packet joins the queue tagged `tag`, and it is counted.
 module _ (ws : List ℕ) (n units : ℕ) (row : Standing) (ok : Acceptable ws n units row) (a : Allowance) (tag : ℕ) where
@@ -151,7 +146,7 @@ module _ (ws : List ℕ) (n units : ℕ) (row : Standing) (ok : Acceptable ws n 
       -- Once the packet has joined, the count of accepted packets can be raised.
       pub count_ready : Fitting w₂ × (word w₂ accepted_at < 4294967295)
       count_ready =
-          let e = accepted_word w₂ ∙ accepted_same in
+          let e = sym (accepted_word w₂) ∙ accepted_same in
           let f = accepted_most ws ok.sound_words_lem in
           (joins.fitting, omega arith)
 

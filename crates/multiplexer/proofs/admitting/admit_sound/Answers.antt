@@ -12,7 +12,8 @@ use Rattle.meaning.specs.Calls.{with_newcomer, search_answer, after_admission}
 use Rattle.words.specs.Contents.{contents}
 use Rattle.words.proofs.Counts.{sound_fitting}
 use Rattle.words.proofs.TestedSound.{sound_contents}
-use Rattle.multiplexer.proofs.Admits.{ready, standing_word, newcomer, settings_are}
+use Rattle.words.proofs.Readings.{standing_word}
+use Rattle.multiplexer.proofs.Admits.{ready, newcomer, settings_are}
 use Rattle.multiplexer.proofs.Admits.{answer_range, answer_full, answer_rate, answer_search, refused, taken}
 use Rattle.multiplexer.proofs.admitting.admit_sound.Goals as goal
 
