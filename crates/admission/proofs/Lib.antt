@@ -1,4 +1,2 @@
 pub mod Rows
-pub mod Rating
-pub mod Searching
 pub mod Tables

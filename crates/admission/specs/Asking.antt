@@ -1,13 +1,11 @@
 -- What the search asks of the words, what it adds for a connection, and what it finds.
-use Rattle.std.specs.Prelude.{ℕ, ◌+◌, ◌≤◌, ◌<◌, ◌≡◌, true, cond, List, [], ◌∷◌, ◌++◌, map, ltb}
+use Rattle.std.specs.Prelude.{ℕ, ◌+◌, ◌≤◌, ◌<◌, ◌≡◌, true, cond, List, [], ◌∷◌, ◌++◌, map, ltb, Option, Some, None}
 use Rattle.laws.specs.Search.{Search, fails_at, holds}
 use Rattle.meaning.specs.declared.Connection.{Connection}
 use Rattle.meaning.specs.Numbers.{Settings, bound, settings_allowed, connection_allowed}
-use Rattle.meaning.specs.Admission.{twelve_range}
 use Rattle.words.specs.Places.{word, row_count_at}
 use Rattle.words.specs.Contents.{settings_at, asked_at, standings}
 use Rattle.words.specs.Sound.{Fitting}
-use Rattle.admission.specs.declared.Found.{Found}
 
 -- "the set with the newcomer".
 unfoldable pub with_asked : List ℕ → Connection → List Connection
@@ -29,11 +27,11 @@ pub record Small (c : Connection) : Type 0 where
   pub burst_most : c.burst ≤ 64
   pub period_least : 1 ≤ c.period
 
--- What one connection counts for as the packet in the way at t, nothing where (12) does not speak of t.
-unfoldable pub way_term : Settings → ℕ → Connection → ℕ
-way_term set t c = cond (twelve_range set t) (cond (ltb (t + set.interval) (bound set c.class)) c.longest 0) 0
+-- What one connection counts for as the packet in the way at t.
+abbrev pub way_term : Settings → ℕ → Connection → ℕ
+way_term set t c = cond (ltb (t + set.interval) (bound set c.class)) c.longest 0
 
 -- The search of document 01 that this finding means.
-abbrev pub search_of : Found → Search
-search_of (Found.FailsAt t) = fails_at t
-search_of Found.Holds = holds
+abbrev pub search_of : Option ℕ → Search
+search_of (Some t) = fails_at t
+search_of None = holds

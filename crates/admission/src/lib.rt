@@ -1,12 +1,11 @@
 // The rate and the search for the first failing t, over the connections in words. Document 01, "Admission".
 #![tactic(auto)]
 
-ghost use Rattle.std.specs.Prelude.{◌≡◌, ◌≤◌, ◌<◌, max, ◌&&◌, ◌+◌, leb, ltb};
-ghost use Rattle.meaning.specs.Numbers.{bound};
-ghost use Rattle.meaning.specs.Envelope.{envelope, delayed as delayed_is};
-ghost use Rattle.meaning.specs.Admission.{term, rate as rate_is, twelve_range, finite_search};
-ghost use Rattle.words.specs.Places.{word, classes_at};
-ghost use Rattle.words.specs.Contents.{settings_at};
+ghost use Rattle.std.specs.Prelude.{◌≡◌, ◌+◌, ◌<◌, ◌≤◌, length};
+ghost use Rattle.meaning.specs.Numbers.{class_count, bound, largest_bound};
+ghost use Rattle.meaning.specs.Envelope.{envelope, delayed};
+ghost use Rattle.meaning.specs.Admission.{term, sum_at, in_the_way, rate, twelve_range, condition_at, finite_search};
+ghost use Rattle.words.specs.Contents.{asked_at, contents, settings_at};
 ghost use Rattle.admission.specs.Asking.{Ready, Allowed, Small, with_asked, way_term, search_of};
 
 use meaning::Connection;
@@ -14,17 +13,21 @@ use tables::rows::{asked_at, standing_count};
 use tables::settings::{class_count, class_factor, cycle, interval};
 use words::numbers::wide;
 
-// What the search finds: the first t that fails, or that none does.
+// A newcomer asks to stand beside the connections in the words: "the set with the newcomer".
 #[derive(Clone, Copy)]
-pub enum Found {
-    FailsAt(u32),
-    Holds,
+pub struct Asking<'a> {
+    pub ws: &'a [u32],
+    pub newcomer: Connection,
+    pub ghost ready: { Ready ws.now },
+    pub ghost allowed: { Allowed ws.now newcomer },
 }
 
 // E(t - d): nothing where d is above t.
+#[tactic(auto, using(crate::proofs::Tables::units), unfolding(meaning::specs::Envelope::delayed))]
 fn delayed(c: Connection, d: u32, t: u32) -> u32
     requires { Small c × (t ≤ 6000) }
-    ensures { (result ≡ delayed_is (envelope c) d t) × (result ≤ 400000) }
+    ensures value { result ≡ delayed (envelope c) d t }
+    ensures most { result ≤ 400000 }
 {
     if t < d {
         return 0;
@@ -32,117 +35,158 @@ fn delayed(c: Connection, d: u32, t: u32) -> u32
     c.longest * (c.burst + (t - d) / c.period)
 }
 
-// The bound of a class.
-fn bound_of(ws: &[u32], class: u32) -> u32
-    requires { Ready ws.now × ((1 ≤ class) × (class ≤ word ws.now classes_at)) }
-    ensures { (result ≡ bound (settings_at ws.now) class) × (result ≤ 1024) }
-{
-    class_factor(ws, class) * interval(ws)
-}
-
-// What one connection adds to the sum at t.
-fn term_of(ws: &[u32], c: Connection, t: u32) -> u32
-    requires { Ready ws.now × (Allowed ws.now c × (t ≤ 5500)) }
-    ensures { (result ≡ term (settings_at ws.now) t c) × (result ≤ 400000) }
-{
-    let class = c.class;
-    let d = bound_of(ws, class);
-    if class == 1 {
-        return delayed(c, d, t);
+impl Asking<'_> {
+    // The rotation interval D.
+    #[tactic(auto, using(crate::proofs::Tables::facts), unfolding(words::specs::Contents::contents))]
+    fn turn(&self) -> u32
+        ensures value { result ≡ (settings_at self.now.ws.now).interval }
+        ensures most { result ≤ 256 }
+    {
+        interval(self.ws)
     }
-    delayed(c, d, t + interval(ws))
-}
 
-// What one connection counts for as the packet in the way at t: its longest packet, where (12) speaks of t and its bound exceeds t + D.
-fn way_of(ws: &[u32], c: Connection, t: u32, speaks: bool) -> u32
-    requires { Ready ws.now × (Allowed ws.now c × ((t ≤ 5500) × (speaks ≡ twelve_range (settings_at ws.now) t))) }
-    ensures { (result ≡ way_term (settings_at ws.now) t c) × (result ≤ 64) }
-{
-    if !speaks {
-        return 0;
+    // The bound of a class.
+    #[tactic(auto, using(crate::proofs::Tables::classes), unfolding(meaning::specs::Numbers::bound, words::specs::Contents::contents))]
+    fn bound_of(&self, class: u32) -> u32
+        requires { (1 ≤ class) × (class ≤ class_count (settings_at self.now.ws.now)) }
+        ensures value { result ≡ bound (settings_at self.now.ws.now) class }
+        ensures most { result ≤ 1024 }
+    {
+        class_factor(self.ws, class) * self.turn()
     }
-    let class = c.class;
-    let d = bound_of(ws, class);
-    if t + interval(ws) < d {
-        return c.longest;
-    }
-    0
-}
 
-// The larger of two numbers.
-fn larger(a: u32, b: u32) -> u32
-    ensures { result ≡ max a b }
-{
-    if a <= b {
-        return b;
+    // dP, the bound of the last class.
+    #[tactic(auto, using(crate::proofs::Tables::facts), unfolding(meaning::specs::Numbers::largest_bound, words::specs::Contents::contents))]
+    fn largest_bound(&self) -> u32
+        ensures value { result ≡ largest_bound (settings_at self.now.ws.now) }
+        ensures most { result ≤ 1024 }
+    {
+        self.bound_of(class_count(self.ws))
     }
-    a
-}
 
-// Whether (12) speaks of t: d1 <= t < dP - D.
-fn speaks_of(first: u32, last: u32, interval: u32, t: u32) -> bool
-    requires { (t ≤ 5500) × (interval ≤ 256) }
-    ensures { result ≡ (leb first t && ltb (t + interval) last) }
-{
-    if t < first {
-        return false;
+    // What the connection in row i, counted from 0, asked for.
+    #[tactic(auto, using(crate::proofs::Tables::row_allowed, crate::proofs::Tables::rows_most))]
+    fn row(&self, i: usize) -> Connection
+        requires { i < length (contents self.now.ws.now).standing }
+        ensures value { result ≡ asked_at self.now.ws.now i }
+        ensures allowed { Allowed self.now.ws.now result }
+    {
+        asked_at(self.ws, i)
     }
-    t + interval < last
-}
 
-// The sum of s x (M/T), with the newcomer.
-pub fn rate(ws: &[u32], c: Connection) -> u32
-    requires { Ready ws.now × Allowed ws.now c }
-    ensures { result ≡ rate_is (settings_at ws.now) (with_asked ws.now c) }
-{
-    let n = wide(standing_count(ws));
-    let slots = cycle(ws);
-    let mut sum = c.longest * (slots / c.period);
-    let mut i = 0;
-    while i < n {
-        let row = asked_at(ws, i);
-        sum += row.longest * (slots / row.period);
-        i += 1;
-    }
-    sum
-}
-
-// The first t of 0 to dP + M - 1 at which (11) or (12) fails, with the newcomer.
-pub fn first_failing(ws: &[u32], c: Connection) -> Found
-    requires { Ready ws.now × Allowed ws.now c }
-    ensures { search_of result ≡ finite_search (settings_at ws.now) (with_asked ws.now c) }
-{
-    let n = wide(standing_count(ws));
-    let turn = interval(ws);
-    let first = bound_of(ws, 1);
-    let last = bound_of(ws, class_count(ws));
-    let end = last + cycle(ws);
-    let mut t: u32 = 0;
-    let found = 'search: loop {
-        if end <= t {
-            break end;
+    // What one connection adds to the sum at t.
+    #[tactic(auto, using(crate::proofs::Tables::asked), unfolding(meaning::specs::Admission::term))]
+    fn term_of(&self, c: Connection, t: u32) -> u32
+        requires { Allowed self.now.ws.now c × (t ≤ 5500) }
+        ensures value { result ≡ term (settings_at self.now.ws.now) t c }
+        ensures most { result ≤ 400000 }
+    {
+        let d = self.bound_of(c.class);
+        if c.class == 1 {
+            return delayed(c, d, t);
         }
-        let speaks = speaks_of(first, last, turn, t);
-        let mut sum = term_of(ws, c, t);
-        let mut way = way_of(ws, c, t, speaks);
-        let mut i = 0;
-        while i < n {
-            let row = asked_at(ws, i);
-            sum += term_of(ws, row, t);
-            way = larger(way, way_of(ws, row, t, speaks));
-            if t < sum {
-                break 'search t;
+        delayed(c, d, t + self.turn())
+    }
+
+    // Whether (12) speaks of t: d1 <= t < dP - D.
+    #[tactic(auto, using(crate::proofs::Tables::facts), unfolding(meaning::specs::Admission::twelve_range))]
+    fn speaks_of(&self, t: u32) -> bool
+        requires { t ≤ 5500 }
+        ensures { result ≡ twelve_range (settings_at self.now.ws.now) t }
+    {
+        self.bound_of(1) <= t && t + self.turn() < self.largest_bound()
+    }
+
+    // What one connection counts for as the packet in the way at t: its longest packet, where its bound exceeds t + D.
+    #[tactic(auto, using(crate::proofs::Tables::asked))]
+    fn way_of(&self, c: Connection, t: u32) -> u32
+        requires { Allowed self.now.ws.now c × (t ≤ 5500) }
+        ensures value { result ≡ way_term (settings_at self.now.ws.now) t c }
+        ensures most { result ≤ 64 }
+    {
+        if t + self.turn() < self.bound_of(c.class) {
+            return c.longest;
+        }
+        0
+    }
+
+    // The sum of (11) at t, with the newcomer.
+    #[tactic(auto, using(crate::proofs::Rows::sums))]
+    fn sum_at(&self, t: u32) -> u32
+        requires { t ≤ 5500 }
+        ensures value { result ≡ sum_at (settings_at self.now.ws.now) (with_asked self.now.ws.now self.now.newcomer) t }
+        ensures most { result ≤ 13200000 }
+    {
+        let mut sum = self.term_of(self.newcomer, t);
+        for i in 0..wide(standing_count(self.ws)) {
+            sum += self.term_of(self.row(i), t);
+        }
+        sum
+    }
+
+    // "the largest s among connections whose bound exceeds t + D (0 if there are none)", with the newcomer.
+    #[tactic(auto, using(crate::proofs::Rows::largest_none, crate::proofs::Rows::way_is))]
+    fn in_the_way(&self, t: u32) -> u32
+        requires { t ≤ 5500 }
+        ensures value { result ≡ in_the_way (settings_at self.now.ws.now) (with_asked self.now.ws.now self.now.newcomer) t }
+        ensures most { result ≤ 64 }
+    {
+        let mut way = self.way_of(self.newcomer, t);
+        for i in 0..wide(standing_count(self.ws)) {
+            way = way.max(self.way_of(self.row(i), t));
+        }
+        way
+    }
+
+    // (11) and (12) at t, with the newcomer.
+    #[tactic(auto, unfolding(meaning::specs::Admission::condition_at, meaning::specs::Admission::eleven, meaning::specs::Admission::twelve))]
+    fn holds_at(&self, t: u32) -> bool
+        requires { t ≤ 5500 }
+        ensures { result ≡ condition_at (settings_at self.now.ws.now) (with_asked self.now.ws.now self.now.newcomer) t }
+    {
+        let sum = self.sum_at(t);
+        sum <= t && (!self.speaks_of(t) || sum + self.in_the_way(t) <= t)
+    }
+
+    // The sum of s x (M/T), with the newcomer.
+    #[tactic(auto, using(crate::proofs::Rows::rates))]
+    pub fn rate(&self) -> u32
+        ensures { result ≡ rate (settings_at self.now.ws.now) (with_asked self.now.ws.now self.now.newcomer) }
+    {
+        let slots = cycle(self.ws);
+        let mut sum = self.newcomer.longest * (slots / self.newcomer.period);
+        for i in 0..wide(standing_count(self.ws)) {
+            let row = self.row(i);
+            sum += row.longest * (slots / row.period);
+        }
+        sum
+    }
+
+    // The search goes up to here: dP + M.
+    #[tactic(auto, using(crate::proofs::Tables::facts), unfolding(words::specs::Contents::contents))]
+    fn end(&self) -> u32
+        ensures value { result ≡ largest_bound (settings_at self.now.ws.now) + (settings_at self.now.ws.now).cycle }
+        ensures most { result ≤ 5120 }
+    {
+        self.largest_bound() + cycle(self.ws)
+    }
+
+    // The first t of 0 to dP + M - 1 at which (11) or (12) fails, with the newcomer.
+    #[tactic(auto, using(laws::specs::Found::found_holds), unfolding(meaning::specs::Admission::finite_search))]
+    pub fn first_failing(&self) -> Option<u32>
+        ensures { search_of result ≡ finite_search (settings_at self.now.ws.now) (with_asked self.now.ws.now self.now.newcomer) }
+    {
+        let end = self.end();
+        let mut t = 0;
+        // `(0..end).find(..)` would do: document 01 names this form, a loop left by a break that carries the first failing t.
+        loop {
+            if end <= t {
+                break None;
             }
-            i += 1;
+            if !self.holds_at(t) {
+                break Some(t);
+            }
+            t += 1;
         }
-        if t < sum + way {
-            break t;
-        }
-        t += 1;
-    };
-    if found < end {
-        Found::FailsAt(found)
-    } else {
-        Found::Holds
     }
 }

@@ -71,11 +71,6 @@ pub settings_are : (ws : List ℕ) → settings_at ws ≡ (contents ws).settings
 unfolding contents
 settings_are ws = refl
 
--- The count of the connections that stand is a word.
-pub standing_word : (ws : List ℕ) → length (contents ws).standing ≡ word ws row_count_at
-unfolding contents standings
-standing_word ws = length_series (standing_at ws) 6 rows_at (word ws row_count_at)
-
 -- The numbers of a connection, tested one after another.
 module _ (set : Settings) (c : Connection) where
   -- A newcomer whose class number is off range is not allowed.

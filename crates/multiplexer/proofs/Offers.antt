@@ -11,7 +11,7 @@ use Rattle.laws.specs.Tests.{within, within_facts}
 use Rattle.meaning.specs.declared.Refusal.{Refusal}
 use Rattle.meaning.specs.Numbers.{factor, largest_factor, most_waiting}
 use Rattle.meaning.specs.declared.Allowance.{Allowance}
-use Rattle.meaning.specs.Envelope.{full, came_back, refilled, conforms, charged, allowance_kept}
+use Rattle.meaning.specs.Envelope.{conforms, charged, allowance_kept}
 use Rattle.meaning.specs.Queues.{join_tail}
 use Rattle.meaning.specs.declared.Packet.{Packet}
 use Rattle.meaning.specs.Box.{Box, connection, stands, waiting, on_link, packets, sound}
@@ -26,46 +26,16 @@ use Rattle.words.specs.Sound.{Fitting, sound_words}
 use Rattle.words.specs.Changes.{Become}
 use Rattle.store.specs.StoreChanges.{with_queues}
 use Rattle.tables.specs.TableChanges.{with_accepted}
-use Rattle.words.proofs.Counts.{waiting_count}
+use Rattle.words.proofs.Counts.{waiting_count, sound_fitting}
 use Rattle.words.proofs.PutContents.{row_count}
+use Rattle.words.proofs.Readings.{classes_word, accepted_word}
 use Rattle.words.proofs.TestedSound.{sound_contents}
 use Rattle.words.proofs.Becoming.{become_then}
-use Rattle.admission.proofs.Tables.{class_count_lem}
-use Rattle.envelope.specs.Record.{sender, Ready}
-use Rattle.multiplexer.specs.Promised.{Leaves, RowReady, Acceptable, accepted_box}
+use Rattle.envelope.specs.Record.{Ready}
+use Rattle.multiplexer.specs.Promised.{Leaves, Acceptable, accepted_box}
 use Rattle.multiplexer.proofs.Sounds.{facts, leaves_same, leaves}
 use Rattle.std.proofs.Common.{Result, Ok, Err}
 use Rattle.meaning.specs.declared.Link.{Link}
-
--- The envelope uses only the burst and the period of a connection.
-pub conforms_same : (row : Standing) (a : Allowance) (slot : ℕ)
-    → conforms (sender row.asked.burst row.asked.period) a slot ≡ conforms row.asked a slot
-unfolding conforms refilled came_back full
-conforms_same row a slot = refl
-
--- Charging an allowance uses of a row only b and T.
-pub charged_same : (row : Standing) (a : Allowance) (slot : ℕ)
-    → charged (sender row.asked.burst row.asked.period) a slot ≡ charged row.asked a slot
-unfolding charged refilled came_back full
-charged_same row a slot = refl
-
--- So is the range of the allowance.
-kept_same : (row : Standing) (a : Allowance) (slot : ℕ)
-    → allowance_kept (sender row.asked.burst row.asked.period) slot a ≡ allowance_kept row.asked slot a
-unfolding allowance_kept
-kept_same row a slot = refl
-
--- What the envelope's functions ask of a row.
-pub envelope_ready : (row : Standing) (slot : ℕ) → RowReady row slot → Ready row.asked.burst row.asked.period row.allowance slot
-envelope_ready row slot r =
-    record {
-      burst_least = r.burst_least;
-      burst_most = r.burst_most;
-      period_least = r.period_least;
-      period_most = r.period_most;
-      slot_most = r.slot_most;
-      kept = kept_same row row.allowance slot ∙ r.kept;
-    }
 
 -- The row of a connection that stands.
 module _ (ws : List ℕ) (n : ℕ) (row : Standing) (h : sound_words ws ≡ true) (s : stands (contents ws) n ≡ true)
@@ -76,13 +46,12 @@ module _ (ws : List ℕ) (n : ℕ) (row : Standing) (h : sound_words ws ≡ true
     row_facts = subst (ConnectionFacts (contents ws).settings) asked (asked_allowed (contents ws) n (facts ws h) s)
 
     -- The row of a connection that stands is ready to be charged at this slot.
-    pub row_ready : RowReady row (contents ws).counter
+    pub row_ready : Ready row (contents ws).counter
     row_ready =
         let f = row_facts in
         let m = (settings_facts (contents ws).settings (facts ws h).settings_allowed_lem).cycle_most in
         let p = f.period_most in
         record {
-          burst_least = f.burst_least;
           burst_most = f.burst_most;
           period_least = f.period_least;
           period_most = omega arith;
@@ -97,7 +66,7 @@ module _ (ws : List ℕ) (n : ℕ) (row : Standing) (h : sound_words ws ≡ true
     unfolding contents
     class_within =
         let f = row_facts in
-        let k = class_count_lem ws in
+        let k = classes_word ws in
         let c = f.class_most in
         (f.class_least, omega arith)
 
@@ -114,7 +83,7 @@ pub tag_most : (ws : List ℕ) (class : ℕ) → sound_words ws ≡ true → 1 �
     → factor (contents ws).settings class ≤ largest_factor (contents ws).settings
 unfolding contents
 tag_most ws class h a b =
-    let k = class_count_lem ws in
+    let k = classes_word ws in
     factor_within (settings_at ws) class (settings_facts (settings_at ws) (facts ws h).settings_allowed_lem) a (omega arith)
 
 -- The count of accepted packets of sound words is far below 2^32.
@@ -132,11 +101,6 @@ accepted_most ws h =
     on_link_lem : (l : Link) → length (on_link l) ≤ 1
     on_link_lem Link.Free = omega arith
     on_link_lem (Link.Carries p left) = omega arith
-
--- The word of the count of accepted packets.
-accepted_word : (ws : List ℕ) → word ws accepted_at ≡ (contents ws).accepted
-unfolding contents
-accepted_word ws = refl
 
 -- The three changes of an acceptance: the allowance a is written, the packet joins the queue tagged `tag`, and it is counted.
 module _ (ws : List ℕ) (n units : ℕ) (row : Standing) (ok : Acceptable ws n units row) (a : Allowance) (tag : ℕ) where
@@ -183,7 +147,7 @@ module _ (ws : List ℕ) (n units : ℕ) (row : Standing) (ok : Acceptable ws n 
       -- Once the packet has joined, the count of accepted packets can be raised.
       pub count_ready : Fitting w₂ × (word w₂ accepted_at < 4294967295)
       count_ready =
-          let e = accepted_word w₂ ∙ accepted_same in
+          let e = sym (accepted_word w₂) ∙ accepted_same in
           let f = accepted_most ws ok.sound_words_lem in
           (joins.fitting, omega arith)
 
@@ -298,3 +262,6 @@ module _ (ws : List ℕ) (n units : ℕ) (h : sound_words ws ≡ true) where
         (offer_keeps_sound (contents ws) n units (sound_contents ws h))
         (subst (Become ws after) (ap (after_offer (contents ws) n units) e) b),
   )
+
+-- What an acceptance goes by.
+pub ruleset accepting = (sound_fitting, accepted_most, number_within)

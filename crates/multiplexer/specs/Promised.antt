@@ -7,7 +7,7 @@ use Rattle.laws.specs.Tests.{within}
 use Rattle.meaning.specs.declared.Connection.{Connection}
 use Rattle.meaning.specs.Numbers.{factor, largest_factor, most_waiting, last_slot}
 use Rattle.meaning.specs.Queues.{tag_zero_waits}
-use Rattle.meaning.specs.Envelope.{conforms, allowance_kept}
+use Rattle.meaning.specs.Envelope.{conforms}
 use Rattle.meaning.specs.Box.{Box, connection, stands, waiting}
 use Rattle.meaning.specs.Calls.{allowance, admission_answer, after_admission, offer_answer, after_offer}
 use Rattle.meaning.specs.Step.{link_taken, queues_taken, sent_answer, link_sent, turn_due, moved, step_answer, after_step}
@@ -80,15 +80,6 @@ SendsUnit entry departure r exit =
 -- The tag of the queue that the packets of this class join, which is at most the largest.
 abbrev pub TagOf : Box → ℕ → ℕ → Type 0
 TagOf box class r = (r ≡ factor box.settings class) × (r ≤ largest_factor box.settings)
-
--- A row whose numbers are allowed, with an allowance in its range at this slot.
-pub record RowReady (row : Standing) (slot : ℕ) : Type 0 where
-  pub burst_least : 1 ≤ row.asked.burst
-  pub burst_most : row.asked.burst ≤ 64
-  pub period_least : 1 ≤ row.asked.period
-  pub period_most : row.asked.period ≤ 4096
-  pub slot_most : slot ≤ last_slot
-  pub kept : allowance_kept row.asked slot row.allowance ≡ true
 
 -- A packet that is taken: its connection stands in this row, its length is permitted, it conforms, and there is room for it.
 pub record Acceptable (ws : List ℕ) (n units : ℕ) (row : Standing) : Type 0 where

@@ -1,13 +1,13 @@
 // Admission. Document 01, "Admission".
 ghost use Rattle.std.specs.Prelude.{◌≡◌, true};
 ghost use Rattle.meaning.specs.Numbers.{connection_allowed};
-ghost use Rattle.meaning.specs.Envelope.{full};
 ghost use Rattle.words.specs.Contents.{contents};
 ghost use Rattle.words.specs.Sound.{sound_words};
 ghost use Rattle.multiplexer.specs.Promises.{AdmitPromise, AdmitSoundPromise};
 
-use admission::{Found, first_failing, rate};
-use meaning::{Allowance, Connection, Refusal, Standing};
+use admission::Asking;
+use envelope::fresh;
+use meaning::{Connection, Refusal, Standing};
 use soundness::testing::is_sound;
 use tables::rows::{append_row, standing_count};
 use tables::settings::{class_count, cycle};
@@ -46,31 +46,21 @@ pub fn admit_sound(ws: &mut [u32], c: Connection) -> Result<u32, Refusal>
     if 32 <= n {
         return Err(Refusal::TableFull);
     }
-    let sum = rate(ws, c);
-    if cycle(ws) < sum {
+    let asking = Asking { ws, newcomer: c };
+    if cycle(ws) < asking.rate() {
         return Err(Refusal::RateExceeded);
     }
-    let found = first_failing(ws, c);
-    match found {
-        Found::FailsAt(t) => Err(Refusal::ConditionFails(t)),
-        Found::Holds => {
-            append_row(ws, fresh_row(c));
-            Ok(n + 1)
-        }
+    if let Some(t) = asking.first_failing() {
+        return Err(Refusal::ConditionFails(t));
     }
-}
-
-// The row of a connection that is taken: what it asked for, with all its credits.
-fn fresh_row(c: Connection) -> Standing
-    ensures { result ≡ record { asked = c; allowance = full c } }
-{
-    Standing {
-        asked: c,
-        allowance: Allowance {
-            next: 0,
-            credit: c.burst,
+    append_row(
+        ws,
+        Standing {
+            asked: c,
+            allowance: fresh(c),
         },
-    }
+    );
+    Ok(n + 1)
 }
 
 // Admission: "Admission: 1, 3, 4, 5, 6".

@@ -1,13 +1,12 @@
 // Offering a packet. Document 01, "Envelope" and "Queues and steps".
 ghost use Rattle.std.specs.Prelude.{◌≡◌, true, ◌≤◌};
-ghost use Rattle.meaning.specs.Envelope.{conforms};
 ghost use Rattle.words.specs.Places.{word, classes_at};
 ghost use Rattle.words.specs.Contents.{contents};
 ghost use Rattle.words.specs.Sound.{sound_words};
-ghost use Rattle.multiplexer.specs.Promised.{TagOf, RowReady, Acceptable, Accepts};
+ghost use Rattle.multiplexer.specs.Promised.{TagOf, Acceptable, Accepts};
 ghost use Rattle.multiplexer.specs.Promises.{OfferPromise, OfferSoundPromise};
 
-use envelope::{charge_record, conforming};
+use envelope::{charge, conforming};
 use meaning::{Packet, Refusal, Standing};
 use soundness::testing::is_sound;
 use store::lengths::waiting_count;
@@ -18,6 +17,7 @@ use tables::settings::class_factor;
 use words::numbers::{is_within, wide};
 
 // The factor of a connection's class: the tag of the queue that its packets join.
+#[tactic(auto, using(words::proofs::Counts::sound_fitting, crate::proofs::Offers::tag_most))]
 fn tag_of(ws: &[u32], class: u32) -> usize
     requires { (sound_words ws.now ≡ true) × ((1 ≤ class) × (class ≤ word ws.now classes_at)) }
     ensures { TagOf (contents ws.now) class result }
@@ -26,21 +26,16 @@ fn tag_of(ws: &[u32], class: u32) -> usize
 }
 
 // The packet is accepted: its connection is charged once, it joins the tail of its queue, and it is counted.
-fn accept(ws: &mut [u32], n: u32, units: u32, row: Standing) -> u32
+#[tactic(auto, using(crate::proofs::Offers::accepting))]
+fn accept(ws: &mut [u32], n: u32, units: u32, mut row: Standing) -> u32
     requires { Acceptable ws.old n units row }
     ensures { Accepts ws.old n units result ws.new }
 {
     let slot = counter(ws);
     let serial = accepted(ws) + 1;
     let tag = tag_of(ws, row.asked.class);
-    let charged = charge_record(
-        row.allowance.next,
-        row.allowance.credit,
-        row.asked.burst,
-        row.asked.period,
-        slot,
-    );
-    write_allowance(ws, n, charged.next, charged.credit);
+    charge(&mut row, slot);
+    write_allowance(ws, n, row.allowance.next, row.allowance.credit);
     join(
         ws,
         tag,
@@ -55,14 +50,6 @@ fn accept(ws: &mut [u32], n: u32, units: u32, row: Standing) -> u32
     serial
 }
 
-// Whether a packet of this connection conforms at this slot.
-fn fits(row: Standing, slot: u32) -> bool
-    requires { RowReady row slot }
-    ensures { result ≡ conforms row.asked row.allowance slot }
-{
-    conforming(row.asked.burst, row.asked.period, row.allowance, slot)
-}
-
 // An offer on sound words.
 pub fn offer_sound(ws: &mut [u32], n: u32, units: u32) -> Result<u32, Refusal>
     requires { sound_words ws.old ≡ true }
@@ -75,7 +62,7 @@ pub fn offer_sound(ws: &mut [u32], n: u32, units: u32) -> Result<u32, Refusal>
     if !is_within(1, units, row.asked.longest) {
         return Err(Refusal::WrongLength);
     }
-    if !fits(row, counter(ws)) {
+    if !conforming(row, counter(ws)) {
         return Err(Refusal::NotFitting);
     }
     if 1024 <= waiting_count(ws) {

@@ -1,28 +1,14 @@
-use mathlib.Core.Path.{◌≡◌, sym, ap, subst, ◌∙◌}
+use mathlib.Core.Path.{◌≡◌, ap, subst, ◌∙◌}
 use native.Mathlib.Numerals.{add-one}
 use Prim.Native.Nat.{suc}
-use native.Mathlib.Omega.{arith}
-use Rattle.meaning.specs.declared.Allowance.{Allowance}
-use Rattle.meaning.specs.Envelope.{conforms, charged as charged_is}
+use Rattle.meaning.specs.declared.Standing.{Standing}
+use Rattle.meaning.specs.Envelope.{charged as charged_is}
 use Rattle.meaning.specs.Queues.{join_tail}
 use Rattle.words.specs.Contents.{contents}
 use Rattle.words.specs.Changes.{Become}
 use Rattle.store.specs.StoreChanges.{with_queues}
-use Rattle.words.proofs.Counts.{sound_fitting}
-use Rattle.multiplexer.specs.Promised.{RowReady}
-use Rattle.multiplexer.proofs.Offers.{packet_is, row_ready, class_within, accepted_most, envelope_ready, conforms_same}
-use Rattle.multiplexer.proofs.Offers.{charged_same, number_within, join_ready, count_ready, accepted_becomes}
+use Rattle.multiplexer.proofs.Offers.{packet_is, row_ready, class_within, join_ready, count_ready, accepted_becomes}
 use Rattle.multiplexer.proofs.offering.accept.Goals as goal
-
-pub counter-slot-requires : goal.counter-slot-requires
-counter-slot-requires c = sound_fitting c.args.ws.now c.requires.sound_words_lem
-
-pub accepted-serial-requires : goal.accepted-serial-requires
-accepted-serial-requires c = sound_fitting c.args.ws.now c.requires.sound_words_lem
-
-pub overflow_add-serial : goal.overflow_add-serial
-overflow_add-serial c =
-    omega (arith, c.accepted-serial.ensures, accepted_most c.args.ws.now c.requires.sound_words_lem)
 
 pub tag_of-tag-requires : goal.tag_of-tag-requires
 tag_of-tag-requires c =
@@ -30,23 +16,13 @@ tag_of-tag-requires c =
     let ok = c.requires in
     (ok.sound_words_lem, class_within ws c.args.n c.args.row ok.sound_words_lem ok.number_stands ok.row_asked ok.row_allowance)
 
-pub charge_record-charged-requires : goal.charge_record-charged-requires
-charge_record-charged-requires c =
+pub charge-requires : goal.charge-requires
+charge-requires c =
     let ws = c.args.ws.now in
     let ok = c.requires in
     let row = c.args.row in
-    let slot = c.counter-slot in
-    let r = row_ready ws c.args.n row ok.sound_words_lem ok.number_stands ok.row_asked ok.row_allowance in (
-      envelope_ready row slot.result (subst (RowReady row) (sym slot.ensures) r),
-      conforms_same row row.allowance slot.result ∙ ap (conforms row.asked row.allowance) slot.ensures ∙ ok.fit,
-    )
-
-pub write_allowance-requires : goal.write_allowance-requires
-write_allowance-requires c =
-    let ws = c.args.ws.now in
-    let ok = c.requires in
-    let k = number_within ws c.args.n ok.number_stands in
-    (sound_fitting ws ok.sound_words_lem, k.0, k.1)
+    let r = row_ready ws c.args.n row ok.sound_words_lem ok.number_stands ok.row_asked ok.row_allowance in
+    rw c.counter-slot.ensures (r, ok.fit)
 
 pub join-requires : goal.join-requires
 join-requires c =
@@ -55,10 +31,9 @@ join-requires c =
     let row = c.args.row in
     let n = c.args.n in
     let units = c.args.units in
-    let charged = c.charge_record-charged in
     let tag = c.tag_of-tag in
     let wrote = c.write_allowance in
-    let a : Allowance = record { next = charged.result.next; credit = charged.result.credit } in
+    let a = c.charge.new.row.allowance in
     join_ready ws n units row ok a tag.result wrote.new.ws wrote.ensures tag.ensures.1
 
 pub count_accepted-requires : goal.count_accepted-requires
@@ -68,10 +43,9 @@ count_accepted-requires c =
     let row = c.args.row in
     let n = c.args.n in
     let units = c.args.units in
-    let charged = c.charge_record-charged in
     let tag = c.tag_of-tag in
     let wrote = c.write_allowance in
-    let a : Allowance = record { next = charged.result.next; credit = charged.result.credit } in
+    let a = c.charge.new.row.allowance in
     let joined = c.join in
     let slot = c.counter-slot in
     let serial = c.accepted-serial in
@@ -87,10 +61,9 @@ returns c =
     let row = c.args.row in
     let n = c.args.n in
     let units = c.args.units in
-    let charged = c.charge_record-charged in
     let tag = c.tag_of-tag in
     let wrote = c.write_allowance in
-    let a : Allowance = record { next = charged.result.next; credit = charged.result.credit } in
+    let a = c.charge.new.row.allowance in
     let joined = c.join in
     let counted = c.count_accepted in
     let slot = c.counter-slot in
@@ -99,7 +72,7 @@ returns c =
     (with_queues (contents wrote.new.ws) (join_tail tag.result p (contents wrote.new.ws).queues)))
     (packet_is ws n units serial.result slot.result serial.ensures slot.ensures) joined.ensures in
     let e : a ≡ charged_is row.asked row.allowance (contents ws).counter =
-    charged.ensures ∙ charged_same row row.allowance slot.result ∙ ap (charged_is row.asked row.allowance) slot.ensures in (
+    ap (λ (r : Standing). r.allowance) c.charge.ensures ∙ ap (charged_is row.asked row.allowance) slot.ensures in (
       add-one serial.result ∙ ap suc serial.ensures,
       accepted_becomes ws n units row ok a tag.result wrote.new.ws wrote.ensures joined.new.ws joins e tag.ensures.0
           tag.ensures.1 counted.new.ws counted.ensures,

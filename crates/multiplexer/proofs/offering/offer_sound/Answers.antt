@@ -7,7 +7,7 @@ use Rattle.meaning.specs.Calls.{after_offer}
 use Rattle.words.specs.Contents.{contents}
 use Rattle.words.proofs.Counts.{sound_fitting}
 use Rattle.words.proofs.TestedSound.{sound_contents}
-use Rattle.multiplexer.specs.Promised.{RowReady}
+use Rattle.envelope.specs.Record.{Ready}
 use Rattle.multiplexer.proofs.Offers.{stands_as, number_within, row_ready, answer_unknown, answer_length, answer_unfit}
 use Rattle.multiplexer.proofs.Offers.{answer_full, answer_accepted, refused, taken}
 use Rattle.multiplexer.proofs.offering.offer_sound.Goals as goal
@@ -58,21 +58,21 @@ pub counter-requires : goal.counter-requires
 counter-requires c =
     sound_fitting c.args.ws.now c.requires
 
-pub fits-requires : goal.fits-requires
-fits-requires c =
+pub conforming-requires : goal.conforming-requires
+conforming-requires c =
     let ws = c.args.ws.now in
     let n = c.args.n in
     let units = c.args.units in
     let row = c.read_row-row in
-    subst (RowReady row.result) (sym c.counter.ensures)
+    subst (Ready row.result) (sym c.counter.ensures)
     (row_ready ws n row.result c.requires
     (stands_as (contents ws) n c.standing_count.result c.standing_count.ensures
     c.is_within.result c.is_within.ensures
     (c.if-not-is_within.false)) row.ensures.0 row.ensures.1)
 
-pub returns-then-not-fits : goal.returns-then-not-fits
+pub returns-then-not-conforming : goal.returns-then-not-conforming
 unfolding after_offer
-returns-then-not-fits c =
+returns-then-not-conforming c =
     let ws = c.args.ws.now in
     let n = c.args.n in
     let units = c.args.units in
@@ -86,7 +86,7 @@ returns-then-not-fits c =
     c.if-not-is_within-2.false)
     (ap₂ (λ q a. conforms q a (contents ws).counter) row.ensures.0 row.ensures.1 ∙
     (ap (conforms row.result.asked row.result.allowance) (sym c.counter.ensures) ∙
-    sym c.fits.ensures ∙ c.if-not-fits.true))) refl
+    sym c.conforming.ensures ∙ c.if-not-conforming.true))) refl
 
 pub waiting_count-requires : goal.waiting_count-requires
 waiting_count-requires c =
@@ -108,7 +108,7 @@ returns-then-waiting_count-ge1024 c =
     c.if-not-is_within-2.false)
     (ap₂ (λ q a. conforms q a (contents ws).counter) row.ensures.0 row.ensures.1 ∙
     (ap (conforms row.result.asked row.result.allowance) (sym c.counter.ensures) ∙
-    sym c.fits.ensures ∙ c.if-not-fits.false))
+    sym c.conforming.ensures ∙ c.if-not-conforming.false))
     (omega (arith, c.waiting_count.ensures, c.if-waiting_count-ge1024.true))) refl
 
 pub accept-requires : goal.accept-requires
@@ -126,7 +126,7 @@ accept-requires c =
       row_allowance = row.ensures.1;
       permitted = sym c.is_within-2.ensures ∙ c.if-not-is_within-2.false;
       fit = (ap (conforms row.result.asked row.result.allowance) (sym c.counter.ensures) ∙
-          sym c.fits.ensures ∙ c.if-not-fits.false);
+          sym c.conforming.ensures ∙ c.if-not-conforming.false);
       room = omega (arith, c.waiting_count.ensures, c.if-waiting_count-ge1024.false);
     }
 
@@ -146,6 +146,6 @@ returns c =
     c.if-not-is_within-2.false)
     (ap₂ (λ q a. conforms q a (contents ws).counter) row.ensures.0 row.ensures.1 ∙
     (ap (conforms row.result.asked row.result.allowance) (sym c.counter.ensures) ∙
-    sym c.fits.ensures ∙ c.if-not-fits.false))
+    sym c.conforming.ensures ∙ c.if-not-conforming.false))
     (omega (arith, c.waiting_count.ensures, c.if-waiting_count-ge1024.false)))
     a.ensures.1

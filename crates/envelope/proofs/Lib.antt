@@ -1,2 +1,0 @@
-pub mod Charges
-pub mod Refills
