@@ -47,20 +47,32 @@ pub fn conforming(row: Standing, slot: u32) -> bool
     1 <= refill(row, slot).credit
 }
 
-// The allowance is charged where it lies, by an accepted packet: one credit less, and from a full one the next credit comes back after a period.
+// The allowance once an accepted packet is charged: one credit less, and from a full one the next credit comes back after a period.
 #[tactic(auto, unfolding(meaning::specs::Envelope::conforms, meaning::specs::Envelope::charged))]
-pub fn charge(row: &mut Standing, slot: u32)
-    requires { Chargeable row.old slot }
-    ensures { row.new ≡ record row.old { allowance = charged row.old.asked row.old.allowance slot } }
+fn charged(row: Standing, slot: u32) -> Allowance
+    requires { Chargeable row slot }
+    ensures { result ≡ charged row.asked row.allowance slot }
 {
-    let now = refill(*row, slot);
+    let now = refill(row, slot);
     let next = if now.credit == row.asked.burst {
         slot + row.asked.period
     } else {
         now.next
     };
-    row.allowance = Allowance {
+    Allowance {
         next,
         credit: now.credit - 1,
+    }
+}
+
+// "The allowance record of a connection is charged once by an accepted packet": it is charged where it lies, for what the connection asked.
+pub fn charge(allowance: &mut Allowance, asked: Connection, slot: u32)
+    requires { Chargeable (record { asked = asked; allowance = allowance.old }) slot }
+    ensures { allowance.new ≡ charged asked allowance.old slot }
+{
+    let row = Standing {
+        asked,
+        allowance: *allowance,
     };
+    *allowance = charged(row, slot);
 }

@@ -1,10 +1,12 @@
 -- Laws of bytes put into a buffer: one after another, and one byte.
-use Prim.Native.Nat.{ℕ, suc, ◌+◌, ◌≤◌, ◌<◌}
-use mathlib.Core.Path.{◌≡◌, refl, sym, ap, ◌∙◌}
+use Prim.Native.Nat.{ℕ, suc, ◌+◌, ◌/◌, ◌%◌, ◌≤◌, ◌<◌}
+use mathlib.Core.Path.{◌≡◌, refl, sym, ap, ◌∙◌, subst}
 use mathlib.Core.List.{List, [], ◌∷◌, ◌++◌, append_assoc}
 use native.Mathlib.Omega.{arith}
 use lib.ListN.{length, take, drop, set, length-append, take-append-drop}
 use lib.Seq.{set_split, take_at, drop_at, length-take-le, drop-drop, take-length, paste, length-paste}
+use Rattle.meaning.specs.Lines.{digit, decimal}
+use Rattle.meaning.proofs.Decimal.{decimal_small, decimal_large}
 use Rattle.lines.specs.Put.{put_at, Room, Put}
 
 -- Bytes that are pasted whole are put.
@@ -81,3 +83,44 @@ put_length {a} {b} {at} {next} {s} p h = ap length p.bytes ∙ length_put a at s
 -- A byte that is stored is put, and the text ends one byte on.
 pub put_byte : (out : List ℕ) (at v : ℕ) → Room out at (v ∷ []) → Put out (set out at v) at (v ∷ []) (at + 1)
 put_byte out at v h = record { bytes = put_one out at v (omega arith); place = refl }
+
+-- Numbers: below ten, and from ten on.
+module _ (out : List ℕ) (at n : ℕ) (room : Room out at (decimal n)) where
+  -- There is room for the digit of a number below ten.
+  pub small_room : n < 10 → Room out at ((48 + n) ∷ [])
+  unfolding digit
+  small_room h = subst (λ l. Room out at l) (decimal_small n h) room
+
+  -- Storing the digit of a number below ten puts the number.
+  pub small_put : n < 10 → Put out (set out at (48 + n)) at (decimal n) (at + 1)
+  unfolding digit
+  small_put h = subst (λ l. Put out (set out at (48 + n)) at l (at + 1)) (sym (decimal_small n h)) (put_byte out at (48 + n) (small_room h))
+
+  -- The digits of the number divided by ten.
+  abbrev digits : List ℕ
+  digits = decimal (n / 10)
+
+  -- There is room for them and the last digit.
+  large_room : 10 ≤ n → Room out at (digits ++ ((48 + n % 10) ∷ []))
+  unfolding digit
+  large_room h = subst (λ l. Room out at l) (decimal_large n h) room
+
+  -- There is room for the digits of a tenth of the number.
+  pub tenth_room : 10 ≤ n → Room out at (decimal (n / 10))
+  tenth_room h = room_first out at digits ((48 + n % 10) ∷ []) (large_room h)
+
+  module _ {after : List ℕ} {last : ℕ} (p : Put out after at (decimal (n / 10)) last) (h : 10 ≤ n) where
+    -- Then there is room for the last digit.
+    pub last_room : last + 1 ≤ length after
+    last_room = room_after ((48 + n % 10) ∷ []) p (large_room h)
+
+    -- After the digits of a tenth the buffer is as long as before.
+    pub large_length : length after ≡ length out
+    large_length = put_length p (tenth_room h)
+
+    -- They and the last digit put the number.
+    pub large_put : Put out (set after last (48 + n % 10)) at (decimal n) (last + 1)
+    unfolding digit
+    large_put =
+        subst (λ l. Put out (set after last (48 + n % 10)) at l (last + 1)) (sym (decimal_large n h))
+        (then p (put_byte after last (48 + n % 10) last_room) (large_room h))

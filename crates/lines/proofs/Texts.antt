@@ -1,5 +1,5 @@
 -- The text of a line, as it is put: a fixed word with its space, then each number with the byte after it.
-use Prim.Native.Nat.{ℕ, suc, zero, ◌+◌, ◌%◌, ◌^◌, ◌≤◌, ◌<◌}
+use Prim.Native.Nat.{ℕ, suc, zero, ◌+◌, ◌≤◌, ◌<◌}
 use Prim.Native.String.{String}
 use mathlib.Core.Path.{◌≡◌, refl, sym, ap, subst, ◌∙◌}
 use mathlib.Core.Bool.{cond}
@@ -9,22 +9,9 @@ use native.Mathlib.Omega.{arith}
 use borrow.Author.Tests.{lt-ltb}
 use lib.Dec.{leb-suc-suc}
 use lib.ListN.{length, get_or, drop}
-use Rattle.std.specs.Fmt as printed
-use Rattle.std.proofs.lemmas.Fmt.{decimal_by_steps}
-use Rattle.meaning.proofs.Decimal.{decimal_small, decimal_large}
-use Rattle.meaning.specs.Lines.{ascii, digit, decimal, numbers_text, line_of, line_text}
+use Rattle.meaning.specs.Lines.{ascii, decimal, numbers_text, line_of, line_text}
 use Rattle.meaning.specs.declared.Line.{Line}
 use Rattle.lines.specs.Put.{Put, Room, field, byte_after, fields, line}
-
--- What the library prints for a number is its text here.
-pub same_decimal : (n : ℕ) → n < 2 ^ 64 → decimal n ≡ printed.decimal n
-unfolding digit
-same_decimal = decimal_by_steps (λ n text. decimal n ≡ text) decimal_small
-    (λ n text h e. decimal_large n h ∙ ap (λ l. l ++ (digit (n % 10) ∷ [])) e)
-
--- Bytes that hold what the library prints for a number are its text.
-pub digits_are : (n : ℕ) {bytes text : List ℕ} → n < 2 ^ 64 → bytes ≡ text → text ≡ printed.decimal n → bytes ≡ decimal n
-digits_are n h e t = e ∙ t ∙ sym (same_decimal n h)
 
 -- Numbers with the byte after each are the numbers with spaces between them and a newline at the end.
 numbers_fields : (n : ℕ) (ns : List ℕ) → numbers_text (n ∷ ns) ++ ascii "\n" ≡ fields (n ∷ ns)

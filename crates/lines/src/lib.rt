@@ -1,11 +1,10 @@
 // One line of output into a lent buffer: a fixed word and its numbers. Document 01, "The program and one whole run".
 #![tactic(auto)]
 
-ghost use Rattle.std.specs.Prelude.{◌≡◌, ◌<◌};
-ghost use Rattle.meaning.specs.Lines.{line_text};
+ghost use Rattle.std.specs.Prelude.{◌≡◌, ◌<◌, ◌+◌};
+ghost use Rattle.meaning.specs.Lines.{decimal, line_text};
 ghost use Rattle.lines.specs.Put.{Put, Room, field, byte_after, fields, line as numbered};
 
-use itoa::Buffer;
 use meaning::Line;
 
 // The bytes of s, from `at` on.
@@ -18,13 +17,27 @@ fn put_bytes(out: &mut [u8], at: usize, s: &[u8]) -> usize
     end
 }
 
-// The number n in decimal, and the byte after it.
+// "numbers are printed most significant digit first with no leading zeros": the digits of n divided by ten, then the last digit.
+// Document 01 names this form, a recursion on the number divided by ten, so the library's printing doesn't take its place.
+fn put_number(out: &mut [u8], at: usize, n: u32) -> usize
+    requires { Room out.old at (decimal n) }
+    ensures { Put out.old out.new at (decimal n) result }
+{
+    if n < 10 {
+        out[at] = b'0' + n as u8;
+        return at + 1;
+    }
+    let last = put_number(out, at, n / 10);
+    out[last] = b'0' + (n % 10) as u8;
+    last + 1
+}
+
+// The number n and the byte after it.
 fn put_field(out: &mut [u8], at: usize, n: u32, after: u8) -> usize
     requires { Room out.old at (field n after) }
     ensures { Put out.old out.new at (field n after) result }
 {
-    let mut digits = Buffer::new();
-    let last = put_bytes(out, at, digits.format(n).as_bytes());
+    let last = put_number(out, at, n);
     out[last] = after;
     last + 1
 }

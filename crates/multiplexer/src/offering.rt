@@ -34,7 +34,7 @@ fn accept(ws: &mut [u32], n: u32, units: u32, mut row: Standing) -> u32
     let slot = counter(ws);
     let serial = accepted(ws) + 1;
     let tag = tag_of(ws, row.asked.class);
-    charge(&mut row, slot);
+    charge(&mut row.allowance, row.asked, slot);
     write_allowance(ws, n, row.allowance.next, row.allowance.credit);
     join(
         ws,

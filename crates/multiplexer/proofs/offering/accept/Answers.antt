@@ -1,7 +1,6 @@
 use mathlib.Core.Path.{◌≡◌, ap, subst, ◌∙◌}
 use native.Mathlib.Numerals.{add-one}
 use Prim.Native.Nat.{suc}
-use Rattle.meaning.specs.declared.Standing.{Standing}
 use Rattle.meaning.specs.Envelope.{charged as charged_is}
 use Rattle.meaning.specs.Queues.{join_tail}
 use Rattle.words.specs.Contents.{contents}
@@ -33,7 +32,7 @@ join-requires c =
     let units = c.args.units in
     let tag = c.tag_of-tag in
     let wrote = c.write_allowance in
-    let a = c.charge.new.row.allowance in
+    let a = c.charge.new.allowance in
     join_ready ws n units row ok a tag.result wrote.new.ws wrote.ensures tag.ensures.1
 
 pub count_accepted-requires : goal.count_accepted-requires
@@ -45,7 +44,7 @@ count_accepted-requires c =
     let units = c.args.units in
     let tag = c.tag_of-tag in
     let wrote = c.write_allowance in
-    let a = c.charge.new.row.allowance in
+    let a = c.charge.new.allowance in
     let joined = c.join in
     let slot = c.counter-slot in
     let serial = c.accepted-serial in
@@ -63,7 +62,7 @@ returns c =
     let units = c.args.units in
     let tag = c.tag_of-tag in
     let wrote = c.write_allowance in
-    let a = c.charge.new.row.allowance in
+    let a = c.charge.new.allowance in
     let joined = c.join in
     let counted = c.count_accepted in
     let slot = c.counter-slot in
@@ -72,7 +71,7 @@ returns c =
     (with_queues (contents wrote.new.ws) (join_tail tag.result p (contents wrote.new.ws).queues)))
     (packet_is ws n units serial.result slot.result serial.ensures slot.ensures) joined.ensures in
     let e : a ≡ charged_is row.asked row.allowance (contents ws).counter =
-    ap (λ (r : Standing). r.allowance) c.charge.ensures ∙ ap (charged_is row.asked row.allowance) slot.ensures in (
+    c.charge.ensures ∙ ap (charged_is row.asked row.allowance) slot.ensures in (
       add-one serial.result ∙ ap suc serial.ensures,
       accepted_becomes ws n units row ok a tag.result wrote.new.ws wrote.ensures joined.new.ws joins e tag.ensures.0
           tag.ensures.1 counted.new.ws counted.ensures,
