@@ -40,7 +40,7 @@ fn accept(ws: &mut [u32], n: u32, units: u32, row: Standing) -> u32
         row.asked.period,
         slot,
     );
-    write_allowance(ws, n, charged.next, charged.credit);
+    write_allowance(ws, n, charged);
     join(
         ws,
         tag,

@@ -66,7 +66,3 @@ tested ws =
 abbrev pub QueueLies : List ℕ → ℕ → ℕ → Type 0
 QueueLies ws place at =
     Tables ws × (place < 64) × (at ≡ start_of ws place) × (at + 4 * word ws (lengths_at + place) ≤ length ws)
-
--- The allowance of a connection with this burst and period is in its range.
-abbrev pub allowance_in_range : ℕ → ℕ → ℕ → Allowance → Bool
-allowance_in_range burst period counter a = allowance_kept (record { class = 0; longest = 0; burst = burst; period = period }) counter a

@@ -1,7 +1,6 @@
 // Small tests on numbers and on stretches of words.
-ghost use Rattle.std.specs.Prelude.{◌≡◌, ◌≤◌, ◌-◌, ◌^◌, ◌<◌, length};
-ghost use Rattle.laws.specs.Tests.{within};
-ghost use Rattle.words.specs.Sound.{zeros};
+ghost use Rattle.std.specs.Prelude.{◌≡◌, ◌^◌, ◌<◌, eqb};
+ghost use Rattle.laws.specs.Tests.{within, every};
 
 // A word as an index or a count.
 pub fn wide(x: u32) -> usize
@@ -14,20 +13,12 @@ pub fn wide(x: u32) -> usize
 pub fn is_within(low: u32, x: u32, high: u32) -> bool
     ensures { result ≡ within low x high }
 {
-    if low <= x { x <= high } else { false }
+    (low..=high).contains(&x)
 }
 
-// The words from index `from` up to, not including, index `to` are 0.
-pub fn are_zero(ws: &[u32], from: usize, to: usize) -> bool
-    requires { (from ≤ to) × (to ≤ length ws.now) }
-    ensures { result ≡ zeros ws.now from (to - from) }
+// All of these words are 0.
+pub fn are_zero(words: &[u32]) -> bool
+    ensures { result ≡ every (λ w. eqb w 0) words.now }
 {
-    let mut i = from;
-    while i < to {
-        if ws[i] != 0 {
-            return false;
-        }
-        i += 1;
-    }
-    true
+    words.iter().all(|word| *word == 0)
 }

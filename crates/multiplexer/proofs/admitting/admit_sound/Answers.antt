@@ -16,11 +16,14 @@ use Rattle.multiplexer.proofs.Admits.{ready, standing_word, newcomer, settings_a
 use Rattle.multiplexer.proofs.Admits.{answer_range, answer_full, answer_rate, answer_search, refused, taken}
 use Rattle.multiplexer.proofs.admitting.admit_sound.Goals as goal
 
-pub returns-then-not-allowed : goal.returns-then-not-allowed
+pub connection_allowed-requires : goal.connection_allowed-requires
+connection_allowed-requires c = omega (arith, (sound_fitting c.args.ws.now c.requires).enough)
+
+pub returns-then-not-connection_allowed : goal.returns-then-not-connection_allowed
 unfolding after_admission
-returns-then-not-allowed c =
+returns-then-not-connection_allowed c =
     let ws = c.args.ws.now in
-    let e = sym c.allowed.ensures ∙ c.if-not-allowed.true in
+    let e = sym c.connection_allowed.ensures ∙ c.if-not-connection_allowed.true in
     refused ws c.args.c c.requires (Admitted.Refused Refusal.ConnectionOffRange)
     (answer_range (contents ws) c.args.c (sound_contents ws c.requires) e) refl
 
@@ -33,12 +36,12 @@ returns-then-n-ge32 c =
     let ws = c.args.ws.now in
     let many : most_connections ≤ length (contents ws).standing = omega (arith, c.standing_count-n.ensures, c.if-n-ge32.true) in
     refused ws c.args.c c.requires (Admitted.Refused Refusal.TableFull)
-    (answer_full (contents ws) c.args.c (sound_contents ws c.requires) (sym c.allowed.ensures ∙ c.if-not-allowed.false) many) refl
+    (answer_full (contents ws) c.args.c (sound_contents ws c.requires) (sym c.connection_allowed.ensures ∙ c.if-not-connection_allowed.false) many) refl
 
 pub rate-sum-requires : goal.rate-sum-requires
 unfolding contents
 rate-sum-requires c =
-    (ready c.args.ws.now c.requires, sym c.allowed.ensures ∙ c.if-not-allowed.false)
+    (ready c.args.ws.now c.requires, sym c.connection_allowed.ensures ∙ c.if-not-connection_allowed.false)
 
 pub cycle-requires : goal.cycle-requires
 cycle-requires c =
@@ -53,12 +56,12 @@ returns-then-cycle-sum c =
     let high : (contents ws).settings.cycle < rate (contents ws).settings (with_newcomer (contents ws) c.args.c) =
     omega (arith, sum_is, c.cycle.ensures, c.if-cycle-sum.true) in
     refused ws c.args.c c.requires (Admitted.Refused Refusal.RateExceeded)
-    (answer_rate (contents ws) c.args.c (sound_contents ws c.requires) (sym c.allowed.ensures ∙ c.if-not-allowed.false) (omega (arith, c.standing_count-n.ensures, c.if-n-ge32.false)) high) refl
+    (answer_rate (contents ws) c.args.c (sound_contents ws c.requires) (sym c.connection_allowed.ensures ∙ c.if-not-connection_allowed.false) (omega (arith, c.standing_count-n.ensures, c.if-n-ge32.false)) high) refl
 
 pub first_failing-found-requires : goal.first_failing-found-requires
 unfolding contents
 first_failing-found-requires c =
-    (ready c.args.ws.now c.requires, sym c.allowed.ensures ∙ c.if-not-allowed.false)
+    (ready c.args.ws.now c.requires, sym c.connection_allowed.ensures ∙ c.if-not-connection_allowed.false)
 
 pub append_row-requires : goal.append_row-requires
 append_row-requires c =
@@ -75,7 +78,7 @@ returns-in-FailsAt c =
     let e = c.in-FailsAt.is in
     refused ws c.args.c c.requires (Admitted.Refused (Refusal.ConditionFails c.in-FailsAt.t))
     (answer_search (contents ws) c.args.c (sound_contents ws c.requires) (fails_at c.in-FailsAt.t)
-    (sym (ap search_of e) ∙ c.first_failing-found.ensures ∙ ap₂ finite_search (settings_are ws) (newcomer ws c.args.c)) (sym c.allowed.ensures ∙ c.if-not-allowed.false) (omega (arith, c.standing_count-n.ensures, c.if-n-ge32.false))
+    (sym (ap search_of e) ∙ c.first_failing-found.ensures ∙ ap₂ finite_search (settings_are ws) (newcomer ws c.args.c)) (sym c.connection_allowed.ensures ∙ c.if-not-connection_allowed.false) (omega (arith, c.standing_count-n.ensures, c.if-n-ge32.false))
     (omega (arith, sum_is, c.cycle.ensures, c.if-cycle-sum.false))) refl
 
 pub returns-in-Holds : goal.returns-in-Holds
@@ -92,6 +95,6 @@ returns-in-Holds c =
     taken ws c.args.c c.requires written.new.ws (count.result + 1) row.result row.ensures
     (ap Admitted.Taken one_more ∙
     answer_search (contents ws) c.args.c (sound_contents ws c.requires) holds (sym (ap search_of e) ∙ c.first_failing-found.ensures ∙ ap₂ finite_search (settings_are ws) (newcomer ws c.args.c))
-    (sym c.allowed.ensures ∙ c.if-not-allowed.false) (omega (arith, c.standing_count-n.ensures, c.if-n-ge32.false))
+    (sym c.connection_allowed.ensures ∙ c.if-not-connection_allowed.false) (omega (arith, c.standing_count-n.ensures, c.if-n-ge32.false))
     (omega (arith, sum_is, c.cycle.ensures, c.if-cycle-sum.false)))
     written.ensures

@@ -6,7 +6,8 @@ use Rattle.multiplexer.proofs.offering.tag_of.Goals as goal
 
 pub class_factor-requires : goal.class_factor-requires
 class_factor-requires c =
-    (sound_fitting c.args.ws.now c.requires.0, c.requires.1.0, c.requires.1.1)
+    let k = sound_fitting c.args.ws.now c.requires.0 in
+    (omega (arith, k.enough), k.classes, c.requires.1.0, c.requires.1.1)
 
 pub returns : goal.returns
 returns c =

@@ -1,11 +1,6 @@
-use Rattle.laws.specs.Tests.{within}
-use borrow.Author.Tests.{le-leb, lt-leb}
+use Rattle.std.proofs.Common.{rules}
+use Rattle.words.proofs.Ranges.{contains_within}
 use Rattle.words.proofs.numbers.is_within.Goals as goal
 
-pub returns-then-low-x : goal.returns-then-low-x
-unfolding within
-returns-then-low-x c = rw (le-leb _ _ c.if-low-x.true)
-
-pub returns-else-low-x : goal.returns-else-low-x
-unfolding within
-returns-else-low-x c = rw (lt-leb _ _ c.if-low-x.false)
+pub returns : goal.returns
+returns c = search (rules, contains_within)
