@@ -1,4 +1,4 @@
-use Rattle.std.proofs.Common.{◌≡◌, ◌≤◌, ℕ, List, true, false, length, replicate, length-set, length-append, length-drop, length-take-le, arith, sym, ap, ◌∙◌}
+use Rattle.std.proofs.Common.{◌≡◌, ◌≤◌, ℕ, List, true, false, length, replicate, length-set, length-append, length-drop, length-take, length-take-le, arith, sym, ap, ◌∙◌}
 use borrow.Author.Tests.{lt-ltb, le-ltb}
 use Rattle.meaning.specs.declared.Opened.{Opened}
 use Rattle.meaning.specs.Calls.{opening_answer}
@@ -29,7 +29,7 @@ returns-then-ws-lt-BOX_WORDS c =
     simp (e, lt-ltb _ _ c.if-ws-lt-BOX_WORDS.true)
 
 pub slice_bounds-fill-end-2 : goal.slice_bounds-fill-end-2
-slice_bounds-fill-end-2 c = sym (length-take-le packets_at c.args.ws.now (omega arith))
+slice_bounds-fill-end-2 c = sym (length-take-le _ c.args.ws.now (omega arith))
 
 pub overflow_cast-ws : goal.overflow_cast-ws
 overflow_cast-ws c =
@@ -39,9 +39,8 @@ overflow_cast-ws c =
 pub slice_bounds-copy_from_slice-end : goal.slice_bounds-copy_from_slice-end
 slice_bounds-copy_from_slice-end c =
     let a = c.args in
-    let n : length c.fill.new.self ≡ packets_at = c.fill.ensures.len ∙ length-take-le packets_at a.ws.now (omega arith) in
     let most = factors_most a.d a.m a.factors.now (sym c.settings_allowed.ensures ∙ c.if-not-settings_allowed.false) in
-    simp (length-set, length-append, length-drop, n) (omega arith)
+    simp (length-set, length-append, length-drop, c.fill.ensures.len, length-take) (omega arith)
 
 pub returns : goal.returns
 unfolding opened opening_answer after_opening
