@@ -12,7 +12,6 @@ ghost use Rattle.admission.specs.Asking.{Ready, Allowed, Small, with_asked, way_
 use meaning::Connection;
 use tables::rows::{asked_at, standing_count};
 use tables::settings::{class_count, class_factor, cycle, interval};
-use words::numbers::wide;
 
 // What the search finds: the first t that fails, or that none does.
 #[derive(Clone, Copy)]
@@ -95,7 +94,7 @@ pub fn rate(ws: &[u32], c: Connection) -> u32
     requires { Ready ws.now × Allowed ws.now c }
     ensures { result ≡ rate_is (settings_at ws.now) (with_asked ws.now c) }
 {
-    let n = wide(standing_count(ws));
+    let n = standing_count(ws) as usize;
     let slots = cycle(ws);
     let mut sum = c.longest * (slots / c.period);
     let mut i = 0;
@@ -112,7 +111,7 @@ pub fn first_failing(ws: &[u32], c: Connection) -> Found
     requires { Ready ws.now × Allowed ws.now c }
     ensures { search_of result ≡ finite_search (settings_at ws.now) (with_asked ws.now c) }
 {
-    let n = wide(standing_count(ws));
+    let n = standing_count(ws) as usize;
     let turn = interval(ws);
     let first = bound_of(ws, 1);
     let last = bound_of(ws, class_count(ws));

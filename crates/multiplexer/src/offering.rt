@@ -15,14 +15,14 @@ use store::queues::join;
 use tables::counter::{accepted, count_accepted, counter};
 use tables::rows::{read_row, standing_count, write_allowance};
 use tables::settings::class_factor;
-use words::numbers::{is_within, wide};
+use words::numbers::is_within;
 
 // The factor of a connection's class: the tag of the queue that its packets join.
 fn tag_of(ws: &[u32], class: u32) -> usize
     requires { (sound_words ws.now ≡ true) × ((1 ≤ class) × (class ≤ word ws.now classes_at)) }
     ensures { TagOf (contents ws.now) class result }
 {
-    wide(class_factor(ws, class))
+    class_factor(ws, class) as usize
 }
 
 // The packet is accepted: its connection is charged once, it joins the tail of its queue, and it is counted.

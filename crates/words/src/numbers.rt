@@ -1,13 +1,6 @@
 // Small tests on numbers and on stretches of words.
-ghost use Rattle.std.specs.Prelude.{◌≡◌, ◌^◌, ◌<◌, eqb};
+ghost use Rattle.std.specs.Prelude.{◌≡◌, eqb};
 ghost use Rattle.laws.specs.Tests.{within, every};
-
-// A word as an index or a count.
-pub fn wide(x: u32) -> usize
-    ensures { (result ≡ x) × (result < 2 ^ 32) }
-{
-    x as usize
-}
 
 // x is low to high, both ends included.
 pub fn is_within(low: u32, x: u32, high: u32) -> bool

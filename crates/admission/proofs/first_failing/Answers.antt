@@ -7,11 +7,8 @@ use Rattle.admission.proofs.Searching.{known, speaks_range, begins, adds, fails_
 use Rattle.admission.proofs.first_failing.Goals as goal
 use Rattle.admission.proofs.first_failing.Goals.{then-end-t, else-end-t+then-loop-i-test+then-t-sum, else-end-t+else-loop-i-test+then-t-sum-2}
 
-pub standing_count-requires : goal.standing_count-requires
-standing_count-requires c = c.requires.0.fitting
-
-pub wide-n-requires : goal.wide-n-requires
-wide-n-requires c = tt
+pub standing_count-n-requires : goal.standing_count-n-requires
+standing_count-n-requires c = c.requires.0.fitting
 
 pub interval-turn-requires : goal.interval-turn-requires
 interval-turn-requires c = c.requires.0.fitting
@@ -38,7 +35,7 @@ overflow_add-end c =
 
 pub search-init : goal.search-init
 search-init c =
-    let n = c.wide-n in
+    let n = c.standing_count-n in
     let d = c.interval-turn in
     let f = c.bound_of-first in
     let p = c.class_count in
@@ -47,7 +44,7 @@ search-init c =
     record {
       knows = known c.args.ws.now c.args.c n.result d.result f.result p.result l.result m.result c.requires.0
           c.requires.1
-          (n.ensures.0 ∙ c.standing_count.ensures) d.ensures f.ensures.0
+          n.ensures d.ensures f.ensures.0
           p.ensures.0 l.ensures
           m.ensures;
       t_most = omega arith;

@@ -5,11 +5,8 @@ use Rattle.words.proofs.Readings.{cycle_word}
 use Rattle.admission.proofs.Rating.{adds_most, rate_begins, next_allowed, next_most, rates_on, rated}
 use Rattle.admission.proofs.rate.Goals as goal
 
-pub standing_count-requires : goal.standing_count-requires
-standing_count-requires c = c.requires.0.fitting
-
-pub wide-n-requires : goal.wide-n-requires
-wide-n-requires c = tt
+pub standing_count-n-requires : goal.standing_count-n-requires
+standing_count-n-requires c = c.requires.0.fitting
 
 pub cycle-slots-requires : goal.cycle-slots-requires
 cycle-slots-requires c = c.requires.0.fitting
@@ -28,10 +25,10 @@ overflow_mul-sum c =
 
 pub loop-i-init : goal.loop-i-init
 loop-i-init c =
-    let n = c.wide-n in
+    let n = c.standing_count-n in
     let m = c.cycle-slots in
     rate_begins c.args.ws.now c.args.c n.result m.result c.requires.0 c.requires.1
-    (n.ensures.0 ∙ c.standing_count.ensures) m.ensures
+    n.ensures m.ensures
 
 pub asked_at-row-requires : goal.asked_at-row-requires
 asked_at-row-requires c =

@@ -1,4 +1,3 @@
-use mathlib.Core.Path.{◌∙◌}
 use native.Mathlib.Omega.{arith}
 use Rattle.words.proofs.Counts.{sound_fitting}
 use Rattle.multiplexer.proofs.Offers.{tag_most}
@@ -11,5 +10,5 @@ class_factor-requires c =
 
 pub returns : goal.returns
 returns c =
-    let e = c.wide.ensures.0 ∙ c.class_factor.ensures in
+    let e = c.class_factor.ensures in
     (e, omega (arith, e, tag_most c.args.ws.now c.args.class c.requires.0 c.requires.1.0 c.requires.1.1))
