@@ -11,7 +11,6 @@ ghost use Rattle.admission.specs.Asking.{Ready, Allowed, Small, with_asked, way_
 use meaning::Connection;
 use tables::rows::{asked_at, standing_count};
 use tables::settings::{class_count, class_factor, cycle, interval};
-use words::numbers::wide;
 
 // A newcomer asks to stand beside the connections in the words: "the set with the newcomer".
 #[derive(Clone, Copy)]
@@ -118,7 +117,7 @@ impl Asking<'_> {
         ensures most { result ≤ 13200000 }
     {
         let mut sum = self.term_of(self.newcomer, t);
-        for i in 0..wide(standing_count(self.ws)) {
+        for i in 0..standing_count(self.ws) as usize {
             sum += self.term_of(self.row(i), t);
         }
         sum
@@ -132,7 +131,7 @@ impl Asking<'_> {
         ensures most { result ≤ 64 }
     {
         let mut way = self.way_of(self.newcomer, t);
-        for i in 0..wide(standing_count(self.ws)) {
+        for i in 0..standing_count(self.ws) as usize {
             way = way.max(self.way_of(self.row(i), t));
         }
         way
@@ -155,7 +154,7 @@ impl Asking<'_> {
     {
         let slots = cycle(self.ws);
         let mut sum = self.newcomer.longest * (slots / self.newcomer.period);
-        for i in 0..wide(standing_count(self.ws)) {
+        for i in 0..standing_count(self.ws) as usize {
             let row = self.row(i);
             sum += row.longest * (slots / row.period);
         }

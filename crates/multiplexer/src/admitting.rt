@@ -1,7 +1,5 @@
 // Admission. Document 01, "Admission".
 ghost use Rattle.std.specs.Prelude.{◌≡◌, true};
-ghost use Rattle.meaning.specs.Numbers.{connection_allowed};
-ghost use Rattle.words.specs.Contents.{contents};
 ghost use Rattle.words.specs.Sound.{sound_words};
 ghost use Rattle.multiplexer.specs.Promises.{AdmitPromise, AdmitSoundPromise};
 
@@ -10,36 +8,14 @@ use envelope::fresh;
 use meaning::{Connection, Refusal, Standing};
 use soundness::testing::is_sound;
 use tables::rows::{append_row, standing_count};
-use tables::settings::{class_count, cycle};
-use words::numbers::is_within;
-
-// Whether the numbers of a connection are allowed: class, s, b and T in range, T dividing M.
-fn allowed(ws: &[u32], c: Connection) -> bool
-    requires { sound_words ws.now ≡ true }
-    ensures { result ≡ connection_allowed (contents ws.now).settings c }
-{
-    let period = c.period;
-    if !is_within(1, c.class, class_count(ws)) {
-        return false;
-    }
-    if !is_within(1, c.longest, 64) {
-        return false;
-    }
-    if !is_within(1, c.burst, 64) {
-        return false;
-    }
-    if !is_within(1, period, cycle(ws)) {
-        return false;
-    }
-    cycle(ws) % period == 0
-}
+use tables::settings::{connection_allowed, cycle};
 
 // An admission on sound words.
 pub fn admit_sound(ws: &mut [u32], c: Connection) -> Result<u32, Refusal>
     requires { sound_words ws.old ≡ true }
     ensures { AdmitSoundPromise ws.old c result ws.new }
 {
-    if !allowed(ws, c) {
+    if !connection_allowed(ws, c) {
         return Err(Refusal::ConnectionOffRange);
     }
     let n = standing_count(ws);

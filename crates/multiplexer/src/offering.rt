@@ -14,7 +14,6 @@ use store::queues::join;
 use tables::counter::{accepted, count_accepted, counter};
 use tables::rows::{read_row, standing_count, write_allowance};
 use tables::settings::class_factor;
-use words::numbers::{is_within, wide};
 
 // The factor of a connection's class: the tag of the queue that its packets join.
 #[tactic(auto, using(words::proofs::Counts::sound_fitting, crate::proofs::Offers::tag_most))]
@@ -22,7 +21,7 @@ fn tag_of(ws: &[u32], class: u32) -> usize
     requires { (sound_words ws.now ≡ true) × ((1 ≤ class) × (class ≤ word ws.now classes_at)) }
     ensures { TagOf (contents ws.now) class result }
 {
-    wide(class_factor(ws, class))
+    class_factor(ws, class) as usize
 }
 
 // The packet is accepted: its connection is charged once, it joins the tail of its queue, and it is counted.
@@ -35,7 +34,7 @@ fn accept(ws: &mut [u32], n: u32, units: u32, mut row: Standing) -> u32
     let serial = accepted(ws) + 1;
     let tag = tag_of(ws, row.asked.class);
     charge(&mut row.allowance, row.asked, slot);
-    write_allowance(ws, n, row.allowance.next, row.allowance.credit);
+    write_allowance(ws, n, row.allowance);
     join(
         ws,
         tag,
@@ -55,11 +54,11 @@ pub fn offer_sound(ws: &mut [u32], n: u32, units: u32) -> Result<u32, Refusal>
     requires { sound_words ws.old ≡ true }
     ensures { OfferSoundPromise ws.old n units result ws.new }
 {
-    if !is_within(1, n, standing_count(ws)) {
+    if !(1..=standing_count(ws)).contains(&n) {
         return Err(Refusal::NoConnection);
     }
     let row = read_row(ws, n);
-    if !is_within(1, units, row.asked.longest) {
+    if !(1..=row.asked.longest).contains(&units) {
         return Err(Refusal::WrongLength);
     }
     if !conforming(row, counter(ws)) {

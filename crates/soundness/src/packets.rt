@@ -6,52 +6,42 @@ ghost use Rattle.words.specs.Contents.{contents, packet_at};
 ghost use Rattle.words.specs.Tested.{link_tested, packet_fits, packets_fit};
 ghost use Rattle.words.specs.Sound.{Tables};
 
-use words::numbers::{are_zero, is_within, wide};
+use meaning::Packet;
+use tables::rows::asked_by;
+use tables::settings::class_factor;
+use words::numbers::are_zero;
+use words::packets::read_packet;
 use words::places::{
-    ACCEPTED_AT, COUNTER_AT, FACTORS_BEFORE, INTERVAL_AT, LEFT_AT, LENGTHS_AT, LINK_AT,
-    LINK_UNITS_AT, ROW_COUNT_AT, ROWS_BEFORE,
+    ACCEPTED_AT, COUNTER_AT, INTERVAL_AT, LEFT_AT, LENGTHS_AT, LINK_AT, ROW_COUNT_AT,
 };
 
-// The packet that starts at this word may be in the box.
-fn packet_kept(ws: &[u32], at: usize) -> bool
-    requires { Tables ws.now × (at + 4 ≤ length ws.now) }
-    ensures { result ≡ packet_kept (contents ws.now) (packet_at ws.now at) }
+// The packet may be in the box.
+fn packet_kept(ws: &[u32], p: Packet) -> bool
+    requires { Tables ws.now }
+    ensures { result ≡ packet_kept (contents ws.now) p }
 {
-    if !is_within(1, ws[at], ws[ACCEPTED_AT]) {
-        return false;
-    }
-    let connection = ws[at + 1];
-    if !is_within(1, connection, ws[ROW_COUNT_AT]) {
-        return false;
-    }
-    if !is_within(1, ws[at + 2], ws[1 + (ROWS_BEFORE + 6 * wide(connection))]) {
-        return false;
-    }
-    ws[at + 3] <= ws[COUNTER_AT]
+    (1..=ws[ACCEPTED_AT]).contains(&p.serial)
+        && (1..=ws[ROW_COUNT_AT]).contains(&p.connection)
+        && (1..=asked_by(ws, p.connection).longest).contains(&p.units)
+        && p.arrival <= ws[COUNTER_AT]
 }
 
-// The rank that the arrival slot and the class of the packet at this word give.
-fn rank_of(ws: &[u32], at: usize) -> usize
-    requires tables { Tables ws.now × (at + 4 ≤ length ws.now) }
-    requires kept { packet_kept (contents ws.now) (packet_at ws.now at) ≡ true }
-    ensures { result ≡ rank_in (contents ws.now) (packet_at ws.now at) }
+// The rank that the arrival slot and the class of the packet give.
+fn rank_of(ws: &[u32], p: Packet) -> usize
+    requires tables { Tables ws.now }
+    requires kept { packet_kept (contents ws.now) p ≡ true }
+    ensures { result ≡ rank_in (contents ws.now) p }
 {
-    let class = wide(ws[ROWS_BEFORE + 6 * wide(ws[at + 1])]);
-    wide(ws[at + 3] / ws[INTERVAL_AT]) + wide(ws[FACTORS_BEFORE + class])
+    let class = asked_by(ws, p.connection).class;
+    (p.arrival / ws[INTERVAL_AT]) as usize + class_factor(ws, class) as usize
 }
 
-// The packet at this word fits in a queue of this rank, after a packet of the serial `before`.
-fn packet_fits(ws: &[u32], at: usize, rank: usize, before: u32) -> bool
-    requires { Tables ws.now × (at + 4 ≤ length ws.now) }
-    ensures { result ≡ packet_fits (contents ws.now) rank before (packet_at ws.now at) }
+// The packet fits in a queue of this rank, after a packet of the serial `before`.
+fn packet_fits(ws: &[u32], p: Packet, rank: usize, before: u32) -> bool
+    requires { Tables ws.now }
+    ensures { result ≡ packet_fits (contents ws.now) rank before p }
 {
-    if ws[at] <= before {
-        return false;
-    }
-    if !packet_kept(ws, at) {
-        return false;
-    }
-    rank_of(ws, at) == rank
+    before < p.serial && packet_kept(ws, p) && rank_of(ws, p) == rank
 }
 
 // The `count` packets from this word on fit in a queue of this rank, one after another.
@@ -60,15 +50,12 @@ pub fn packets_fit(ws: &[u32], start: usize, count: usize, rank: usize) -> bool
     ensures { result ≡ packets_fit (contents ws.now) rank 0 (series (packet_at ws.now) 4 start count) }
 {
     let mut before = 0;
-    let mut at = start;
-    let mut i = 0;
-    while i < count {
-        if !packet_fits(ws, at, rank, before) {
+    for i in 0..count {
+        let p = read_packet(ws, start + 4 * i);
+        if !packet_fits(ws, p, rank, before) {
             return false;
         }
-        before = ws[at];
-        at += 4;
-        i += 1;
+        before = p.serial;
     }
     true
 }
@@ -80,10 +67,8 @@ pub fn link_tested(ws: &[u32]) -> bool
 {
     let left = ws[LEFT_AT];
     if left == 0 {
-        return are_zero(ws, LINK_AT, LENGTHS_AT);
+        return are_zero(&ws[LINK_AT..LENGTHS_AT]);
     }
-    if !packet_kept(ws, LINK_AT) {
-        return false;
-    }
-    left < ws[LINK_UNITS_AT]
+    let p = read_packet(ws, LINK_AT);
+    packet_kept(ws, p) && left < p.units
 }

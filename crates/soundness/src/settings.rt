@@ -4,7 +4,7 @@ ghost use Rattle.words.specs.Places.{box_words};
 ghost use Rattle.words.specs.Tested.{settings_tested};
 
 use tables::settings::settings_allowed;
-use words::numbers::{are_zero, wide};
+use words::numbers::are_zero;
 use words::places::{CLASSES_AT, CYCLE_AT, FACTORS_AT, INTERVAL_AT, ROW_COUNT_AT};
 
 // The settings in words are allowed, and the factors that are not used are 0.
@@ -12,13 +12,9 @@ pub fn settings_tested(ws: &[u32]) -> bool
     requires { box_words ≤ length ws.now }
     ensures { result ≡ settings_tested ws.now }
 {
-    let count = wide(ws[CLASSES_AT]);
-    if 8 < count {
+    let places = &ws[FACTORS_AT..ROW_COUNT_AT];
+    let Some((factors, unused)) = places.split_at_checked(ws[CLASSES_AT] as usize) else {
         return false;
-    }
-    let end = FACTORS_AT + count;
-    if !settings_allowed(ws[INTERVAL_AT], ws[CYCLE_AT], &ws[FACTORS_AT..end]) {
-        return false;
-    }
-    are_zero(ws, end, ROW_COUNT_AT)
+    };
+    settings_allowed(ws[INTERVAL_AT], ws[CYCLE_AT], factors) && are_zero(unused)
 }

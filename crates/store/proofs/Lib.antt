@@ -1,4 +1,5 @@
 -- Laws of the store of waiting packets.
+pub mod Sums
 pub mod Moving
 pub mod QueueLaws
 pub mod Shift

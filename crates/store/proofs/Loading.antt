@@ -6,6 +6,7 @@ use mathlib.Core.List.{List, []}
 use mathlib.Core.Option.{some}
 use native.Mathlib.Omega.{arith}
 use lib.ListN.{length, get_or, set, drop}
+use Rattle.std.proofs.Common.{Option, None, Some, MatchOption}
 use Rattle.laws.specs.Series.{get_or_series, every_index, length_series}
 use Rattle.laws.specs.Tests.{every}
 use Rattle.meaning.specs.Numbers.{largest_factor}
@@ -18,14 +19,14 @@ use Rattle.words.specs.Places.{word, lengths_below, start_of, place_of, left_at,
 use Rattle.words.specs.Contents.{contents, settings_at, packet_at, no_packet, turns_at, queue_at, queues_at}
 use Rattle.words.specs.Sound.{Fitting, sound_words}
 use Rattle.words.specs.Changes.{Become}
-use Rattle.store.specs.StoreChanges.{with_queues, loaded_box, lowest_tag}
+use Rattle.store.specs.StoreChanges.{with_queues, loaded_box, lowest_tag, LowestTag}
 use Rattle.tables.specs.TableChanges.{with_link}
 use Rattle.words.proofs.Rotation.{place_below}
 use Rattle.words.proofs.TableReads.{lengths_most}
 use Rattle.words.proofs.Counts.{sound_fitting}
 use Rattle.words.proofs.TestedSound.{sound_queues}
 use Rattle.words.proofs.Same.{queue_tagged_at, waiting_length}
-use Rattle.store.proofs.QueueLaws.{take_sets, take_none, take_head}
+use Rattle.store.proofs.QueueLaws.{lowest_first, lowest_none, take_sets, take_none, take_head}
 use Rattle.tables.proofs.LinkWritten.{link_free, link_busy}
 use Rattle.store.proofs.Shift.{start_is}
 use Rattle.words.proofs.Becoming.{become_then}
@@ -35,6 +36,17 @@ use Rattle.meaning.specs.declared.Link.{Link}
 tags : (ws : List ℕ) → length (contents ws).queues ≡ suc (largest_factor (settings_at ws))
 unfolding contents queues_at
 tags ws = length_series (λ k. queue_at ws (place_of (turns_at ws) k)) 1 0 (suc (largest_factor (settings_at ws)))
+
+-- The first tag below `end` whose queue has a packet is the lowest, and where none has one there is none.
+pub lowest_found : (ws : List ℕ) (end : ℕ) (found : Option ℕ) → end ≡ suc (largest_factor (settings_at ws))
+    → MatchOption found ((k : ℕ) → 0 ≤ k → k < end → length (get_or (contents ws).queues k []) ≡ 0)
+    (λ i. (0 ≤ i) × (i < end) × (length (get_or (contents ws).queues i []) ≡ 0 → ⊥)
+    × ((k : ℕ) → 0 ≤ k → k < i → length (get_or (contents ws).queues k []) ≡ 0))
+    → LowestTag ws found
+unfolding contents
+lowest_found ws end None e h =
+    let n = lowest_none (queues_at ws) (λ k l. h k (omega arith) (omega (arith, tags ws))) in omega (arith, tags ws)
+lowest_found ws end (Some tag) e h = (lowest_first (queues_at ws) tag h.2 (λ k l. h.3 k (omega arith) l), omega arith)
 
 -- What holds of the head of a queue that has a packet.
 pub record Head (ws : List ℕ) (tag : ℕ) : Type 0 where

@@ -1,11 +1,10 @@
 -- Lists of queues: the lowest tag, joining a tail, taking a head.
-use Prim.Native.Nat.{ℕ, zero, suc, ◌+◌, ◌-◌, ◌≤◌, ◌<◌}
+use Prim.Native.Nat.{ℕ, zero, suc, ◌≤◌, ◌<◌}
 use mathlib.Core.Path.{◌≡◌, refl, sym, ap, ◌∙◌}
 use mathlib.Core.List.{List, [], ◌∷◌, ◌++◌}
 use mathlib.Core.Option.{none, some}
 use native.Mathlib.Omega.{arith}
 use lib.ListN.{length, get_or, set, drop}
-use Rattle.laws.specs.Series.{series, series_next, series_done}
 use lib.Dec.{ltb}
 use borrow.Author.Tests.{lt-ltb}
 use Rattle.meaning.specs.Queues.{join_tail, lowest_head, without_lowest_head, tag_zero_waits}
@@ -24,19 +23,19 @@ module _ {A : Type 0} where
   lowest_full [] qs e = absurd (e refl)
   lowest_full (x ∷ q) qs e = refl
 
-  -- Past an empty queue the search for the lowest tag goes on with the next.
-  pub lowest_next : (f : ℕ → List A) (start n i : ℕ) → i < n → length (f start) ≡ 0
-      → lowest_tag (series f 1 start (n - i)) ≡ suc (lowest_tag (series f 1 (start + 1) (n - (i + 1))))
-  lowest_next f start n i h e = ap lowest_tag (series_next f 1 start n i h) ∙ lowest_empty (f start) (series f 1 (start + 1) (n - (i + 1))) e
+  -- A queue that has a packet, where no queue before it has one, is at the lowest tag.
+  pub lowest_first : (qs : List (List A)) (tag : ℕ) → (length (get_or qs tag []) ≡ 0 → ⊥)
+      → ((k : ℕ) → k < tag → length (get_or qs k []) ≡ 0) → tag ≡ lowest_tag qs
+  lowest_first [] tag e h = absurd (e refl)
+  lowest_first (q ∷ qs) zero e h = sym (lowest_full q qs e)
+  lowest_first (q ∷ qs) (suc tag) e h =
+      ap suc (lowest_first qs tag e (λ k l. h (suc k) (omega arith))) ∙ sym (lowest_empty q qs (h 0 (omega arith)))
 
-  -- At a queue that has a packet the search for the lowest tag stops.
-  pub lowest_stop : (f : ℕ → List A) (start n i : ℕ) → i < n → (length (f start) ≡ 0 → ⊥) → lowest_tag (series f 1 start (n - i)) ≡ 0
-  lowest_stop f start n i h e = ap lowest_tag (series_next f 1 start n i h) ∙ lowest_full (f start) (series f 1 (start + 1) (n - (i + 1))) e
-
-  -- Past the last queue the search for the lowest tag stops.
-  pub lowest_end : (f : ℕ → List A) (start n i : ℕ) → n ≤ i → lowest_tag (series f 1 start (n - i)) ≡ 0
-  unfolding lowest_tag
-  lowest_end f start n i h = ap lowest_tag (series_done f 1 start n i h)
+  -- Where no queue has a packet, the lowest tag is past the last one.
+  pub lowest_none : (qs : List (List A)) → ((k : ℕ) → k < length qs → length (get_or qs k []) ≡ 0) → length qs ≤ lowest_tag qs
+  lowest_none [] h = omega arith
+  lowest_none (q ∷ qs) h =
+      rw (lowest_empty q qs (h 0 (omega arith))) (omega (arith, lowest_none qs (λ k l. h (suc k) (omega arith))))
 
   -- Joining a tail sets one queue.
   pub join_sets : (tag : ℕ) (p : A) (qs : List (List A)) → tag < length qs → join_tail tag p qs ≡ set qs tag (get_or qs tag [] ++ (p ∷ []))

@@ -43,10 +43,21 @@ pub lengths_next : (ws : List ℕ) (p : ℕ) → lengths_below ws (suc p) ≡ le
 unfolding lengths_below
 lengths_next ws p = refl
 
+-- The packets of the queues up to a place are no more than all that wait.
+pub upto_place : (ws : List ℕ) (P : ℕ) → P < 64 → lengths_below ws (P + 1) ≤ lengths_below ws 64
+upto_place ws P h =
+    (let e : P + 1 ≡ suc P = omega arith in omega (arith, lengths_most ws P 64 h, ap (lengths_below ws) e ∙ lengths_next ws P))
+
 -- A queue starts four words for each packet at the lower places after the first word of the packets.
 pub start_is : (ws : List ℕ) (p : ℕ) → start_of ws p ≡ packets_at + 4 * lengths_below ws p
 unfolding start_of
 start_is ws p = refl
+
+-- The next queue starts where the packets of this one end.
+pub start_next : (ws : List ℕ) (p : ℕ) → start_of ws (p + 1) ≡ start_of ws p + 4 * word ws (lengths_at + p)
+start_next ws p =
+    (let e : p + 1 ≡ suc p = omega arith in
+    rw (start_is ws (p + 1), start_is ws p) (omega (arith, ap (lengths_below ws) e ∙ lengths_next ws p)))
 
 module _ (ws after : List ℕ) (place less more : ℕ) (in_range : place < 64) (s : Shifted ws after place less more) where
   -- As many packets as before lie below each place up to the changed one.

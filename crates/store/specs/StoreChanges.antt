@@ -1,5 +1,5 @@
 -- What joining and taking do to sound words, said of their contents, and how packets move within the words.
-use Rattle.std.specs.Prelude.{ℕ, suc, ◌+◌, ◌≤◌, ◌<◌, ◌≡◌, true, List, [], ◌∷◌, length, get_or, set, drop}
+use Rattle.std.specs.Prelude.{ℕ, suc, ◌+◌, ◌≤◌, ◌<◌, ◌≡◌, true, List, [], ◌∷◌, length, get_or, set, drop, Option, MatchOption}
 use Rattle.meaning.specs.Numbers.{largest_factor}
 use Rattle.meaning.specs.Queues.{join_tail}
 use Rattle.meaning.specs.declared.Packet.{Packet}
@@ -54,9 +54,11 @@ joined_at tag p box = with_queues box (join_tail tag p box.queues)
 abbrev pub beheaded : ℕ → Box → Box
 beheaded tag box = with_queues box (set box.queues tag (drop 1 (get_or box.queues tag [])))
 
--- The tag of the lowest-tagged queue that has a packet, or one above the last.
-abbrev pub LowestTag : List ℕ → ℕ → Type 0
-LowestTag ws tag = (tag ≡ lowest_tag (contents ws).queues) × (tag ≤ suc (largest_factor (contents ws).settings))
+-- The tag of the lowest-tagged queue that has a packet, and none where no queue has one.
+abbrev pub LowestTag : List ℕ → Option ℕ → Type 0
+LowestTag ws found =
+    MatchOption found (largest_factor (contents ws).settings < lowest_tag (contents ws).queues)
+    (λ tag. (tag ≡ lowest_tag (contents ws).queues) × (tag ≤ largest_factor (contents ws).settings))
 
 -- The queue with this tag has a packet.
 abbrev pub HeadWaits : List ℕ → ℕ → Type 0

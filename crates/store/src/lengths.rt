@@ -5,7 +5,6 @@ ghost use Rattle.words.specs.Places.{lengths_below, packets_at};
 ghost use Rattle.words.specs.Contents.{contents};
 ghost use Rattle.words.specs.Sound.{Fitting};
 
-use words::numbers::wide;
 use words::places::LENGTHS_AT;
 
 // How many packets wait in the queues at the places below p.
@@ -13,13 +12,10 @@ pub fn lengths_below(ws: &[u32], p: usize) -> usize
     requires { (p ≤ 64) × (packets_at ≤ length ws.now) }
     ensures { (result ≡ lengths_below ws.now p) × (result ≤ p * 2 ^ 32) }
 {
-    let mut sum = 0;
-    let mut i = 0;
-    while i < p {
-        sum += wide(ws[LENGTHS_AT + i]);
-        i += 1;
-    }
-    sum
+    ws[LENGTHS_AT..LENGTHS_AT + p]
+        .iter()
+        .map(|length| *length as usize)
+        .sum()
 }
 
 // How many packets wait.

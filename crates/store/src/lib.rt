@@ -2,5 +2,4 @@
 #![tactic(auto)]
 
 pub mod lengths;
-pub mod moves;
 pub mod queues;

@@ -10,11 +10,9 @@ ghost use Rattle.words.specs.Changes.{Makes};
 ghost use Rattle.store.specs.StoreChanges.{loaded_box, LowestTag, joined_at, HeadWaits, beheaded, Loadable};
 
 use crate::lengths::lengths_below;
-use crate::moves::{move_down, move_up};
 use meaning::{Link, Packet};
 use tables::link::write_link;
 use tables::settings::{largest_factor, turns};
-use words::numbers::wide;
 use words::packets::{read_packet, write_packet};
 use words::places::{LEFT_AT, LENGTHS_AT, PACKETS_AT};
 
@@ -31,23 +29,15 @@ pub fn waiting_at(ws: &[u32], tag: usize) -> usize
     requires { Fitting ws.now × (tag ≤ largest_factor (contents ws.now).settings) }
     ensures { result ≡ length (get_or (contents ws.now).queues tag []) }
 {
-    wide(ws[LENGTHS_AT + place_of(ws, tag)])
+    ws[LENGTHS_AT + place_of(ws, tag)] as usize
 }
 
-// The tag of the lowest-tagged queue that has a packet, or the number of queues where none has.
-pub fn lowest_tag(ws: &[u32]) -> usize
+// The tag of the lowest-tagged queue that has a packet.
+pub fn lowest_tag(ws: &[u32]) -> Option<usize>
     requires { Fitting ws.now }
     ensures { LowestTag ws.now result }
 {
-    let count = largest_factor(ws) + 1;
-    let mut tag = 0;
-    while tag < count {
-        if waiting_at(ws, tag) != 0 {
-            return tag;
-        }
-        tag += 1;
-    }
-    tag
+    (0..largest_factor(ws) + 1).find(|tag| waiting_at(ws, *tag) != 0)
 }
 
 // A packet joins the tail of the queue with this tag.
@@ -58,9 +48,9 @@ pub fn join(ws: &mut [u32], tag: usize, p: Packet)
     let place = place_of(ws, tag);
     let end = PACKETS_AT + 4 * lengths_below(ws, 64);
     let at = PACKETS_AT + 4 * lengths_below(ws, place + 1);
-    move_up(ws, at, end);
+    ws.copy_within(at..end, at + 4);
     write_packet(ws, at, p);
-    ws[LENGTHS_AT + place] = ws[LENGTHS_AT + place] + 1;
+    ws[LENGTHS_AT + place] += 1;
 }
 
 // The head of the queue with this tag is taken away.
@@ -71,8 +61,8 @@ fn behead(ws: &mut [u32], tag: usize)
     let place = place_of(ws, tag);
     let end = PACKETS_AT + 4 * lengths_below(ws, 64);
     let at = PACKETS_AT + 4 * lengths_below(ws, place);
-    move_down(ws, at, end);
-    ws[LENGTHS_AT + place] = ws[LENGTHS_AT + place] - 1;
+    ws.copy_within(at + 4..end, at);
+    ws[LENGTHS_AT + place] -= 1;
 }
 
 // The step would turn the queues while tag 0 still has a packet, once the head of this step is taken.
@@ -112,9 +102,7 @@ pub fn load_link(ws: &mut [u32])
     if ws[LEFT_AT] != 0 {
         return;
     }
-    let tag = lowest_tag(ws);
-    if largest_factor(ws) < tag {
-        return;
+    if let Some(tag) = lowest_tag(ws) {
+        load_from(ws, tag);
     }
-    load_from(ws, tag);
 }

@@ -1,10 +1,11 @@
 -- The words of a new box: the settings, then zeros.
-use Prim.Native.Nat.{ℕ, zero, suc, ◌+◌, ◌*◌, ◌-◌, ◌≤◌, ◌<◌}
+use Prim.Native.Nat.{ℕ, zero, suc, ◌+◌, ◌*◌, ◌-◌, ◌≤◌}
 use mathlib.Core.Path.{◌≡◌, refl, sym, ap, ◌∙◌}
 use mathlib.Core.List.{List, [], ◌∷◌, ◌++◌, map, flatten, append_assoc, append-nil}
 use native.Mathlib.Omega.{arith}
-use lib.ListN.{length, get_or, take, drop, set, replicate, length-append, length-replicate, replicate-append-replicate}
-use lib.Seq.{drop-cons, set_at, drop-drop, drop-append-le}
+use lib.ListN.{length, get_or, drop, set, replicate, length-append, length-replicate, replicate-append-replicate}
+use lib.Seq.{drop-append-le}
+use borrow.Rule.Slice.PartMut.{put_mid}
 use Rattle.laws.specs.Series.{series, series_same, append_same}
 use Rattle.meaning.specs.Numbers.{Settings, largest_factor}
 use Rattle.meaning.specs.Queues.{empty_queues}
@@ -13,19 +14,7 @@ use Rattle.meaning.specs.Calls.{new_box}
 use Rattle.words.specs.Places.{tag_of, interval_at, cycle_at, classes_at, factors_at, row_count_at, packets_at}
 use Rattle.words.specs.Contents.{padded, packet_words, link_words, turns_of, by_place, laid, tables, image, put}
 use Rattle.words.proofs.Laid.{total, Empty, laid_zeros}
-use Rattle.tables.specs.Opening.{asked, cleared}
-
--- Clearing one word more after the first i clears the first i + 1.
-pub cleared_next : (ws : List ℕ) (i : ℕ) → i < length ws → set (cleared i ws) i 0 ≡ cleared (suc i) ws
-unfolding cleared
-cleared_next ws i h =
-    (let z : List ℕ = replicate i 0 in
-    ap (λ l. set (z ++ l) i 0) (drop-cons ws i 0 h) ∙ set_at z (get_or ws i 0) (drop (suc i) ws) 0 i (length-replicate {A = ℕ} i 0) ∙
-    sym (append_assoc z (0 ∷ []) (drop (suc i) ws)) ∙
-    ap (λ l. l ++ drop (suc i) ws) (replicate-append-replicate {A = ℕ} i 1 0 ∙ ap (λ n. replicate n 0) (one_more i)))
-  where
-    one_more : (i : ℕ) → i + 1 ≡ suc i
-    one_more i = omega arith
+use Rattle.tables.specs.Opening.{asked}
 
 -- Zeros without the first k of them are zeros.
 drop_zeros : (k n : ℕ) → k ≤ n → drop k (replicate {A = ℕ} n 0) ≡ replicate (n - k) 0
@@ -110,31 +99,24 @@ image_new D M fs h =
     ap (λ p. laid (tables (new_box opening)) ++ p) (packets_new opening) ∙ append-nil (laid (tables (new_box opening))) ∙ tables_new D M fs ∙
     ap (λ l. D ∷ M ∷ length fs ∷ l) (ap (λ l. padded (row_count_at - factors_at) fs ++ l) (zeros_new opening) ∙ factors_filled fs h))
 
--- What opening writes is a new box put into the words.
-pub opening_writes : (D M : ℕ) (fs ws cleared_words : List ℕ) → length fs ≤ 8 → cleared_words ≡ cleared packets_at ws
-    → take factors_at (set (set (set cleared_words interval_at D) cycle_at M) classes_at (length fs)) ++ fs ++
-    drop (factors_at + length fs) (set (set (set cleared_words interval_at D) cycle_at M) classes_at (length fs))
+-- What opening writes is a new box put into the words: the settings over zeros, and the factors after them.
+pub opening_writes : (D M : ℕ) (fs ws cleared : List ℕ) → length fs ≤ 8 → cleared ≡ replicate packets_at 0
+    → put_mid factors_at (factors_at + length fs - factors_at)
+    (set (set (set (cleared ++ drop packets_at ws) interval_at D) cycle_at M) classes_at (length fs)) fs
     ≡ put (new_box (asked D M fs)) ws
-unfolding put cleared
-opening_writes D M fs ws l h e =
+unfolding put
+opening_writes D M fs ws cleared h e =
     (let k = length fs in
     let R = drop packets_at ws in
     let z : List ℕ = replicate (packets_at - factors_at) 0 in
-    let X : List ℕ = D ∷ M ∷ k ∷ (z ++ R) in
-    let x : set (set (set l interval_at D) cycle_at M) classes_at k ≡ X = ap (λ t. set (set (set t interval_at D) cycle_at M) classes_at k) e in
-    let d : drop (factors_at + k) X ≡ replicate (packets_at - factors_at - k) 0 ++ R =
-    sym (drop-drop k factors_at X) ∙ drop-append-le k z R (rw (length-replicate {A = ℕ} (packets_at - factors_at) 0) (omega arith)) ∙
+    let n : factors_at + k - factors_at ≡ k = omega arith in
+    let d : drop k (z ++ R) ≡ replicate (packets_at - factors_at - k) 0 ++ R =
+    drop-append-le k z R (rw (length-replicate {A = ℕ} (packets_at - factors_at) 0) (omega arith)) ∙
     ap (λ t. t ++ R) (drop_zeros k (packets_at - factors_at) (omega arith)) in
     let i = image_new D M fs h in
-    let n : length (image (new_box (asked D M fs))) ≡ packets_at = ap length i ∙ size D M fs h in
-    ap (λ t. take factors_at t ++ fs ++ drop (factors_at + k) t) x ∙ ap (λ t. (D ∷ M ∷ k ∷ []) ++ fs ++ t) d ∙
-    append_assoc (D ∷ M ∷ k ∷ []) fs (replicate (packets_at - factors_at - k) 0 ++ R) ∙
+    let size : length (image (new_box (asked D M fs))) ≡ packets_at =
+    rw (i, length-append fs (replicate (packets_at - factors_at - k) 0), length-replicate {A = ℕ} (packets_at - factors_at - k) 0)
+    (omega arith) in
+    rw (e, n) (ap (λ t. (D ∷ M ∷ k ∷ []) ++ (fs ++ t)) d ∙
     ap (λ t. (D ∷ M ∷ k ∷ []) ++ t) (sym (append_assoc fs (replicate (packets_at - factors_at - k) 0) R)) ∙
-    append_same (sym i) (ap (λ m. drop m ws) (sym n)))
-  where
-    size : (D M : ℕ) (fs : List ℕ) → length fs ≤ 8 → length
-        ((D ∷ M ∷ length fs ∷ []) ++ (fs ++ replicate (packets_at - factors_at - length fs) 0)) ≡ packets_at
-    size D M fs h = rw (
-      length-append fs (replicate (packets_at - factors_at - length fs) 0),
-      length-replicate {A = ℕ} (packets_at - factors_at - length fs) 0,
-    ) (omega arith)
+    append_same (sym i) (ap (λ m. drop m ws) (sym size))))

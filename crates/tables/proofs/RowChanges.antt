@@ -7,6 +7,8 @@ use native.Mathlib.Omega.{arith}
 use native.Mathlib.Decide.{dec_le}
 use lib.ListN.{length, set, length-set}
 use lib.Dec.{eqb}
+use borrow.Rule.Slice.PartMut.{put_mid}
+use Rattle.std.proofs.Common.{add-zero}
 use Rattle.laws.specs.Series.{series, series_same, series_last, series_set, series_unit, every_index, every_all}
 use Rattle.meaning.specs.declared.Standing.{Standing}
 use Rattle.meaning.specs.Box.{connection}
@@ -17,7 +19,7 @@ use Rattle.words.specs.Sound.{zeros, Fitting}
 use Rattle.words.specs.Changes.{Become}
 use Rattle.tables.specs.TableChanges.{RowPut}
 use Rattle.words.proofs.TableReads.{connection_at_lem}
-use Rattle.words.proofs.Storing.{word_other, word_same}
+use Rattle.words.proofs.Storing.{word_other, word_same, length_written, word_written, word_below, word_above}
 use Rattle.words.proofs.Same.{standing_same, zeros_same}
 use Rattle.words.proofs.Readings.{counter_word, accepted_word}
 use Rattle.words.proofs.TableChange.{Only, link_stays, link_stays_clear, queues_stay, untagged_stays, table_become}
@@ -112,51 +114,21 @@ allowance_become ws n next credit k h l =
     (e (at + 2) (λ q. omega arith) (λ q. omega arith)) (e (at + 3) (λ q. omega arith) (λ q. omega arith)) w4 w5
     (λ i x. e i (λ q. omega arith) (λ q. omega arith)) (λ i x. e i (λ q. omega arith) (λ q. omega arith)))) b)
 
--- Six stores write a row and leave the other words.
-pub row_stored : (ws : List ℕ) (at a b c d e f : ℕ) → at + 6 ≤ length ws
-    → RowPut ws (set (set (set (set (set (set ws at a) (at + 1) b) (at + 2) c) (at + 3) d) (at + 4) e) (at + 5) f) at
-    (record { asked = record { class = a; longest = b; burst = c; period = d }; allowance = record { next = e; credit = f } })
+-- Six words written at once are a row.
+pub row_stored : (ws : List ℕ) (at : ℕ) (row : Standing) {l : List ℕ} → at + 6 ≤ length ws → l ≡ row.asked.class ∷ row.asked.longest ∷
+    row.asked.burst ∷ row.asked.period ∷ row.allowance.next ∷ row.allowance.credit ∷ []
+    → RowPut ws (put_mid at (at + 6 - at) ws l) at row
 unfolding standing_at
-row_stored ws at a b c d e f h =
-    (let w1 = set ws at a in
-    let w2 = set w1 (at + 1) b in
-    let w3 = set w2 (at + 2) c in
-    let w4 = set w3 (at + 3) d in
-    let w5 = set w4 (at + 4) e in
-    let w6 = set w5 (at + 5) f in
-    let l1 : length w1 ≡ length ws = length-set ws at a in
-    let l2 : length w2 ≡ length ws = length-set w1 (at + 1) b ∙ l1 in
-    let l3 : length w3 ≡ length ws = length-set w2 (at + 2) c ∙ l2 in
-    let l4 : length w4 ≡ length ws = length-set w3 (at + 3) d ∙ l3 in
-    let l5 : length w5 ≡ length ws = length-set w4 (at + 4) e ∙ l4 in
-    let l6 : length w6 ≡ length ws = length-set w5 (at + 5) f ∙ l5 in
-    let o6 : (i : ℕ) → (i ≡ at + 5 → ⊥) → word w6 i ≡ word w5 i = λ i q. word_other w5 (at + 5) f i q in
-    let o5 : (i : ℕ) → (i ≡ at + 4 → ⊥) → word w5 i ≡ word w4 i = λ i q. word_other w4 (at + 4) e i q in
-    let o4 : (i : ℕ) → (i ≡ at + 3 → ⊥) → word w4 i ≡ word w3 i = λ i q. word_other w3 (at + 3) d i q in
-    let o3 : (i : ℕ) → (i ≡ at + 2 → ⊥) → word w3 i ≡ word w2 i = λ i q. word_other w2 (at + 2) c i q in
-    let o2 : (i : ℕ) → (i ≡ at + 1 → ⊥) → word w2 i ≡ word w1 i = λ i q. word_other w1 (at + 1) b i q in
-    let o1 : (i : ℕ) → (i ≡ at → ⊥) → word w1 i ≡ word ws i = λ i q. word_other ws at a i q in
-    let p5 : word w6 (at + 5) ≡ f = word_same w5 (at + 5) f (at + 5) (omega arith) refl in
-    let p4 : word w6 (at + 4) ≡ e = o6 (at + 4) (λ q. omega arith) ∙ word_same w4 (at + 4) e (at + 4) (omega arith) refl in
-    let p3 : word w6 (at + 3) ≡ d = o6 (at + 3) (λ q. omega arith) ∙ o5 (at + 3) (λ q. omega arith) ∙
-    word_same w3 (at + 3) d (at + 3) (omega arith) refl in
-    let p2 : word w6 (at + 2) ≡ c = o6 (at + 2) (λ q. omega arith) ∙ o5 (at + 2) (λ q. omega arith) ∙ o4 (at + 2) (λ q. omega arith) ∙
-    word_same w2 (at + 2) c (at + 2) (omega arith) refl in
-    let p1 : word w6 (at + 1) ≡ b =
-    o6 (at + 1) (λ q. omega arith) ∙ o5 (at + 1) (λ q. omega arith) ∙ o4 (at + 1) (λ q. omega arith) ∙ o3 (at + 1) (λ q. omega arith) ∙
-    word_same w1 (at + 1) b (at + 1) (omega arith) refl in
-    let p0 : word w6 at ≡ a =
-    o6 at (λ q. omega arith) ∙ o5 at (λ q. omega arith) ∙ o4 at (λ q. omega arith) ∙ o3 at (λ q. omega arith) ∙ o2 at (λ q. omega arith) ∙
-    word_same ws at a at (omega arith) refl in
-    record {
-      same_length = l6;
-      row = rw (p0, p1, p2, p3, p4, p5);
-      below = λ i g.
-          o6 i (λ q. omega arith) ∙ o5 i (λ q. omega arith) ∙ o4 i (λ q. omega arith) ∙ o3 i (λ q. omega arith) ∙ o2 i (λ q. omega arith) ∙
-          o1 i (λ q. omega arith);
-      above = λ i g.
-          o6 i (λ q. omega arith) ∙ o5 i (λ q. omega arith) ∙ o4 i (λ q. omega arith) ∙ o3 i (λ q. omega arith) ∙ o2 i (λ q. omega arith) ∙
-          o1 i (λ q. omega arith);
+row_stored ws at row h e =
+    let k : at + 6 - at ≡ 6 = omega arith in
+    let l = row.asked.class ∷ row.asked.longest ∷ row.asked.burst ∷ row.asked.period ∷ row.allowance.next ∷ row.allowance.credit ∷ [] in
+    let w = word_written ws l at 6 h refl in
+    let first : word (put_mid at 6 ws l) at ≡ row.asked.class = ap (λ i. word (put_mid at 6 ws l) i) (sym (add-zero at)) ∙ w 0 (omega arith) in
+    rw (k, e) (record {
+      same_length = length_written ws l at 6 h refl;
+      row = rw (first, w 1 (omega arith), w 2 (omega arith), w 3 (omega arith), w 4 (omega arith), w 5 (omega arith));
+      below = word_below ws l at 6 h refl;
+      above = word_above ws l at 6 h refl;
     })
 
 -- A stretch of zeros has zeros from any later word of it on.

@@ -30,7 +30,7 @@ pub fn count_accepted(ws: &mut [u32])
     requires { Fitting ws.old × (word ws.old accepted_at < 4294967295) }
     ensures { Makes counted_more ws.old ws.new }
 {
-    ws[ACCEPTED_AT] = ws[ACCEPTED_AT] + 1;
+    ws[ACCEPTED_AT] += 1;
 }
 
 // The counter is raised, and the queues are turned if due: no word of a queue changes.
@@ -38,7 +38,7 @@ pub fn raise_counter(ws: &mut [u32])
     requires { Raisable ws.old }
     ensures { Become ws.old ws.new (raised (contents ws.old)) }
 {
-    ws[COUNTER_AT] = ws[COUNTER_AT] + 1;
+    ws[COUNTER_AT] += 1;
 }
 
 // The counter is raised to a later slot at once: where nothing waits, turning the queues leaves them as they are.

@@ -1,12 +1,12 @@
 // The settings of a box: the first rows of document 01's table, and what they say of the queues.
 ghost use Rattle.std.specs.Prelude.{◌≡◌, ◌≤◌, ◌^◌, ◌<◌, length};
-ghost use Rattle.meaning.specs.Numbers.{largest_factor, rising_above, settings_allowed, class_count, factor};
+ghost use Rattle.meaning.specs.Numbers.{largest_factor, rising_above, settings_allowed, connection_allowed, class_count, factor};
 ghost use Rattle.words.specs.Places.{word, packets_at, interval_at, classes_at};
 ghost use Rattle.words.specs.Contents.{contents, settings_at, turns_at};
 ghost use Rattle.words.specs.Sound.{Fitting};
 ghost use Rattle.tables.specs.Opening.{asked};
 
-use words::numbers::{is_within, wide};
+use meaning::Connection;
 use words::places::{CLASSES_AT, COUNTER_AT, CYCLE_AT, FACTORS_BEFORE, INTERVAL_AT};
 
 // Each factor is above the one before it, and the first above 0.
@@ -14,13 +14,11 @@ fn factors_rise(factors: &[u32]) -> bool
     ensures { result ≡ rising_above 0 factors.now }
 {
     let mut low = 0;
-    let mut i = 0;
-    while i < factors.len() {
-        if factors[i] <= low {
+    for factor in factors {
+        if *factor <= low {
             return false;
         }
-        low = factors[i];
-        i += 1;
+        low = *factor;
     }
     true
 }
@@ -29,27 +27,24 @@ fn factors_rise(factors: &[u32]) -> bool
 pub fn settings_allowed(d: u32, m: u32, factors: &[u32]) -> bool
     ensures { result ≡ settings_allowed (asked d m factors.now) }
 {
-    if !is_within(1, d, 256) {
-        return false;
-    }
-    if !is_within(1, m, 4096) {
-        return false;
-    }
-    let count = factors.len();
-    if count < 1 {
-        return false;
-    }
-    if 8 < count {
-        return false;
-    }
-    if !factors_rise(factors) {
-        return false;
-    }
-    let last = factors[count - 1];
-    if 63 < last {
-        return false;
-    }
-    last * d <= 1024
+    (1..=256).contains(&d)
+        && (1..=4096).contains(&m)
+        && (1..=8).contains(&factors.len())
+        && factors_rise(factors)
+        && factors[factors.len() - 1] <= 63
+        && factors[factors.len() - 1] * d <= 1024
+}
+
+// The class, s, b and T of a connection are in range, and T divides M: refusal 3 is given exactly when this is false.
+pub fn connection_allowed(ws: &[u32], c: Connection) -> bool
+    requires { packets_at ≤ length ws.now }
+    ensures { result ≡ connection_allowed (contents ws.now).settings c }
+{
+    (1..=ws[CLASSES_AT]).contains(&c.class)
+        && (1..=64).contains(&c.longest)
+        && (1..=64).contains(&c.burst)
+        && (1..=ws[CYCLE_AT]).contains(&c.period)
+        && ws[CYCLE_AT] % c.period == 0
 }
 
 // The rotation interval D.
@@ -78,10 +73,10 @@ pub fn class_count(ws: &[u32]) -> u32
 
 // rp, the factor of class p.
 pub fn class_factor(ws: &[u32], p: u32) -> u32
-    requires { Fitting ws.now × (1 ≤ p) × (p ≤ word ws.now classes_at) }
+    requires { (packets_at ≤ length ws.now) × (word ws.now classes_at ≤ 8) × (1 ≤ p) × (p ≤ word ws.now classes_at) }
     ensures { result ≡ factor (contents ws.now).settings p }
 {
-    ws[FACTORS_BEFORE + wide(p)]
+    ws[FACTORS_BEFORE + p as usize]
 }
 
 // rP, the factor of the last class.
@@ -89,7 +84,7 @@ pub fn largest_factor(ws: &[u32]) -> usize
     requires { (packets_at ≤ length ws.now) × (1 ≤ word ws.now classes_at) × (word ws.now classes_at ≤ 8) }
     ensures { (result ≡ largest_factor (settings_at ws.now)) × (result < 2 ^ 32) }
 {
-    wide(ws[FACTORS_BEFORE + wide(ws[CLASSES_AT])])
+    ws[FACTORS_BEFORE + ws[CLASSES_AT] as usize] as usize
 }
 
 // floor(now/D): how often the queues have turned.
@@ -97,5 +92,5 @@ pub fn turns(ws: &[u32]) -> usize
     requires { (packets_at ≤ length ws.now) × (1 ≤ word ws.now interval_at) }
     ensures { (result ≡ turns_at ws.now) × (result < 2 ^ 32) }
 {
-    wide(ws[COUNTER_AT] / ws[INTERVAL_AT])
+    (ws[COUNTER_AT] / ws[INTERVAL_AT]) as usize
 }

@@ -2,13 +2,11 @@
 ghost use Rattle.std.specs.Prelude.{◌≤◌, ◌≡◌, length};
 ghost use Rattle.meaning.specs.Run.{number_of, place_of};
 
-use words::numbers::wide;
-
 // "Arrivals name connections by place in the file, counted from 1; those of a refused connection or of no place get 7": 0 names none.
 pub fn number_of(numbers: &[u32], place: u32) -> u32
     ensures { result ≡ number_of numbers.now place }
 {
-    let at = wide(place);
+    let at = place as usize;
     if at == 0 {
         return 0;
     }

@@ -1,4 +1,5 @@
 -- Laws of the layout and of soundness, and how contents change with words.
+pub mod Ranges
 pub mod Rotation
 pub mod Laid
 pub mod PutContents

@@ -1,10 +1,14 @@
--- What stores of words leave: the word that was stored, the others as they were; a packet of four stores.
-use Prim.Native.Nat.{ℕ, ◌+◌, ◌≤◌, ◌<◌}
-use mathlib.Core.Path.{◌≡◌, refl, ap, ◌∙◌}
-use mathlib.Core.List.{List}
+-- What stores of words leave: the word that was stored, the others as they were; a stretch of words that is written at once.
+use Prim.Native.Nat.{ℕ, ◌+◌, ◌-◌, ◌≤◌, ◌<◌}
+use mathlib.Core.Path.{◌≡◌, refl, sym, ap, ◌∙◌}
+use mathlib.Core.List.{List, [], ◌∷◌}
 use native.Mathlib.Omega.{arith}
-use lib.ListN.{length, set, length-set}
+use lib.ListN.{length, set}
 use lib.Seq.{get_or-set_same, get_or-set_other}
+use borrow.Rule.Slice.PartMut.{put_mid}
+use Rattle.std.proofs.Common.{rules, add-zero}
+use Rattle.std.proofs.lemmas.List.{places}
+use Rattle.meaning.specs.declared.Packet.{Packet}
 use Rattle.words.specs.Places.{word}
 use Rattle.words.specs.Contents.{packet_at}
 use Rattle.words.specs.Changes.{PacketPut}
@@ -17,34 +21,37 @@ word_other ws i v j h = get_or-set_other ws i j v 0 h
 pub word_same : (ws : List ℕ) (i v j : ℕ) → i < length ws → j ≡ i → word (set ws i v) j ≡ v
 word_same ws i v j h e = ap (λ k. word (set ws i v) k) e ∙ get_or-set_same ws i v 0 h
 
--- Four stores write a packet and leave the other words.
-pub packet_stored : (ws : List ℕ) (at serial connection units arrival : ℕ) → at + 4 ≤ length ws
-    → PacketPut ws (set (set (set (set ws at serial) (at + 1) connection) (at + 2) units) (at + 3) arrival) at
-    (record { serial = serial; connection = connection; units = units; arrival = arrival })
+-- Words l that are written at word `at` over k words:
+module _ (ws l : List ℕ) (at k : ℕ) (h : at + k ≤ length ws) (e : length l ≡ k) where
+  -- There are as many words as before.
+  pub length_written : length (put_mid at k ws l) ≡ length ws
+  length_written = search (rules, places)
+
+  -- They are read there.
+  pub word_written : (i : ℕ) → i < k → word (put_mid at k ws l) (at + i) ≡ word l i
+  word_written i g = search (rules, places)
+
+  -- The words below stay.
+  pub word_below : (i : ℕ) → i < at → word (put_mid at k ws l) i ≡ word ws i
+  word_below i g = search (rules, places)
+
+  -- The words above stay.
+  pub word_above : (i : ℕ) → at + k ≤ i → word (put_mid at k ws l) i ≡ word ws i
+  word_above i g = search (rules, places)
+
+-- Four words written at once are a packet.
+pub packet_stored : (ws : List ℕ) (at : ℕ) (p : Packet) {l : List ℕ} → at + 4 ≤ length ws
+    → l ≡ p.serial ∷ p.connection ∷ p.units ∷ p.arrival ∷ [] → PacketPut ws (put_mid at (at + 4 - at) ws l) at p
 unfolding packet_at
-packet_stored ws at s n u a h =
-    (let w1 = set ws at s in
-    let w2 = set w1 (at + 1) n in
-    let w3 = set w2 (at + 2) u in
-    let w4 = set w3 (at + 3) a in
-    let l1 : length w1 ≡ length ws = length-set ws at s in
-    let l2 : length w2 ≡ length ws = length-set w1 (at + 1) n ∙ l1 in
-    let l3 : length w3 ≡ length ws = length-set w2 (at + 2) u ∙ l2 in
-    let l4 : length w4 ≡ length ws = length-set w3 (at + 3) a ∙ l3 in
-    let p0 : word w4 at ≡ s = word_other w3 (at + 3) a at (λ q. omega arith) ∙ word_other w2 (at + 2) u at (λ q. omega arith) ∙
-    word_other w1 (at + 1) n at (λ q. omega arith) ∙ word_same ws at s at (omega arith) refl in
-    let p1 : word w4 (at + 1) ≡ n =
-    word_other w3 (at + 3) a (at + 1) (λ q. omega arith) ∙ word_other w2 (at + 2) u (at + 1) (λ q. omega arith) ∙
-    word_same w1 (at + 1) n (at + 1) (omega arith) refl in
-    let p2 : word w4 (at + 2) ≡ u =
-    word_other w3 (at + 3) a (at + 2) (λ q. omega arith) ∙ word_same w2 (at + 2) u (at + 2) (omega arith) refl in
-    let p3 : word w4 (at + 3) ≡ a = word_same w3 (at + 3) a (at + 3) (omega arith) refl in
-    let other : (i : ℕ) → (i ≡ at → ⊥) → (i ≡ at + 1 → ⊥) → (i ≡ at + 2 → ⊥) → (i ≡ at + 3 → ⊥) → word w4 i ≡ word ws i =
-    λ i b0 b1 b2 b3. word_other w3 (at + 3) a i b3 ∙ word_other w2 (at + 2) u i b2 ∙ word_other w1 (at + 1) n i b1 ∙
-    word_other ws at s i b0 in
-    record {
-      same_length = l4;
-      packet = rw (p0, p1, p2, p3);
-      below = λ i b. other i (λ q. omega arith) (λ q. omega arith) (λ q. omega arith) (λ q. omega arith);
-      above = λ i b. other i (λ q. omega arith) (λ q. omega arith) (λ q. omega arith) (λ q. omega arith);
+packet_stored ws at p h e =
+    let k : at + 4 - at ≡ 4 = omega arith in
+    let l = p.serial ∷ p.connection ∷ p.units ∷ p.arrival ∷ [] in
+    let first : word (put_mid at 4 ws l) at ≡ p.serial =
+    ap (λ i. word (put_mid at 4 ws l) i) (sym (add-zero at)) ∙ word_written ws l at 4 h refl 0 (omega arith) in
+    let w = word_written ws l at 4 h refl in
+    rw (k, e) (record {
+      same_length = length_written ws l at 4 h refl;
+      packet = rw (first, w 1 (omega arith), w 2 (omega arith), w 3 (omega arith));
+      below = word_below ws l at 4 h refl;
+      above = word_above ws l at 4 h refl;
     })

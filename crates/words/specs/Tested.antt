@@ -3,7 +3,6 @@ use Rattle.std.specs.Prelude.{ℕ, ◌+◌, ◌-◌, ◌*◌, ◌≤◌, ◌<◌
 use Rattle.laws.specs.Tests.{every, every_below}
 use Rattle.meaning.specs.Numbers.{largest_factor, settings_allowed, connection_allowed, most_connections, most_waiting, last_slot}
 use Rattle.meaning.specs.Envelope.{allowance_kept}
-use Rattle.meaning.specs.declared.Allowance.{Allowance}
 use Rattle.meaning.specs.declared.Packet.{Packet}
 use Rattle.meaning.specs.declared.Standing.{Standing}
 use Rattle.meaning.specs.Box.{Box, packet_kept, rank_in}
@@ -66,7 +65,3 @@ tested ws =
 abbrev pub QueueLies : List ℕ → ℕ → ℕ → Type 0
 QueueLies ws place at =
     Tables ws × (place < 64) × (at ≡ start_of ws place) × (at + 4 * word ws (lengths_at + place) ≤ length ws)
-
--- The allowance of a connection with this burst and period is in its range.
-abbrev pub allowance_in_range : ℕ → ℕ → ℕ → Allowance → Bool
-allowance_in_range burst period counter a = allowance_kept (record { class = 0; longest = 0; burst = burst; period = period }) counter a

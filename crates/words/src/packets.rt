@@ -23,8 +23,5 @@ pub fn write_packet(ws: &mut [u32], at: usize, p: Packet)
     requires { at + 4 ≤ length ws.old }
     ensures { PacketPut ws.old ws.new at p }
 {
-    ws[at] = p.serial;
-    ws[at + 1] = p.connection;
-    ws[at + 2] = p.units;
-    ws[at + 3] = p.arrival;
+    ws[at..at + 4].copy_from_slice(&[p.serial, p.connection, p.units, p.arrival]);
 }

@@ -28,5 +28,3 @@ pub const BOX_WORDS: usize = PACKETS_AT + 4096;
 pub const FACTORS_BEFORE: usize = FACTORS_AT - 1;
 
 pub const ROWS_BEFORE: usize = ROWS_AT - 6;
-
-pub const LINK_UNITS_AT: usize = LINK_AT + 2;

@@ -17,11 +17,14 @@ use Rattle.multiplexer.proofs.Admits.{answer_range, answer_full, answer_rate, an
 use Rattle.multiplexer.proofs.admitting.admit_sound.Goals as goal
 use Rattle.std.proofs.Common.{Ok, Err}
 
-pub returns-then-not-allowed : goal.returns-then-not-allowed
+pub connection_allowed-requires : goal.connection_allowed-requires
+connection_allowed-requires c = omega (arith, (sound_fitting c.args.ws.now c.requires).enough)
+
+pub returns-then-not-connection_allowed : goal.returns-then-not-connection_allowed
 unfolding after_admission
-returns-then-not-allowed c =
+returns-then-not-connection_allowed c =
     let ws = c.args.ws.now in
-    let e = sym c.allowed.ensures ∙ c.if-not-allowed.true in
+    let e = sym c.connection_allowed.ensures ∙ c.if-not-connection_allowed.true in
     refused ws c.args.c c.requires (Err Refusal.ConnectionOffRange)
     (answer_range (contents ws) c.args.c (sound_contents ws c.requires) e) refl
 
@@ -34,11 +37,11 @@ returns-then-n-ge32 c =
     let ws = c.args.ws.now in
     let many : most_connections ≤ length (contents ws).standing = omega (arith, c.standing_count-n.ensures, c.if-n-ge32.true) in
     refused ws c.args.c c.requires (Err Refusal.TableFull)
-    (answer_full (contents ws) c.args.c (sound_contents ws c.requires) (sym c.allowed.ensures ∙ c.if-not-allowed.false) many) refl
+    (answer_full (contents ws) c.args.c (sound_contents ws c.requires) (sym c.connection_allowed.ensures ∙ c.if-not-connection_allowed.false) many) refl
 
 pub invariant_of-asking : goal.invariant_of-asking
 unfolding contents
-invariant_of-asking c = record { ready = ready c.args.ws.now c.requires; allowed = sym c.allowed.ensures ∙ c.if-not-allowed.false }
+invariant_of-asking c = record { ready = ready c.args.ws.now c.requires; allowed = sym c.connection_allowed.ensures ∙ c.if-not-connection_allowed.false }
 
 pub cycle-requires : goal.cycle-requires
 cycle-requires c =
@@ -53,7 +56,7 @@ returns-then-cycle-rate c =
     let high : (contents ws).settings.cycle < rate (contents ws).settings (with_newcomer (contents ws) c.args.c) =
     omega (arith, rate_is, c.cycle.ensures, c.if-cycle-rate.true) in
     refused ws c.args.c c.requires (Err Refusal.RateExceeded)
-    (answer_rate (contents ws) c.args.c (sound_contents ws c.requires) (sym c.allowed.ensures ∙ c.if-not-allowed.false) (omega (arith, c.standing_count-n.ensures, c.if-n-ge32.false)) high) refl
+    (answer_rate (contents ws) c.args.c (sound_contents ws c.requires) (sym c.connection_allowed.ensures ∙ c.if-not-connection_allowed.false) (omega (arith, c.standing_count-n.ensures, c.if-n-ge32.false)) high) refl
 
 pub append_row-requires : goal.append_row-requires
 append_row-requires c =
@@ -69,7 +72,7 @@ returns-in-Some c =
     c.rate.ensures ∙ ap₂ rate (settings_are ws) (newcomer ws c.args.c) in
     refused ws c.args.c c.requires (Err (Refusal.ConditionFails c.in-Some.t))
     (answer_search (contents ws) c.args.c (sound_contents ws c.requires) (fails_at c.in-Some.t)
-    (c.in-Some.ensures ∙ ap₂ finite_search (settings_are ws) (newcomer ws c.args.c)) (sym c.allowed.ensures ∙ c.if-not-allowed.false) (omega (arith, c.standing_count-n.ensures, c.if-n-ge32.false))
+    (c.in-Some.ensures ∙ ap₂ finite_search (settings_are ws) (newcomer ws c.args.c)) (sym c.connection_allowed.ensures ∙ c.if-not-connection_allowed.false) (omega (arith, c.standing_count-n.ensures, c.if-n-ge32.false))
     (omega (arith, rate_is, c.cycle.ensures, c.if-cycle-rate.false))) refl
 
 pub returns : goal.returns
@@ -86,6 +89,6 @@ returns c =
     (ap Ok one_more ∙
     answer_search (contents ws) c.args.c (sound_contents ws c.requires) holds
     (c.in_default.ensures ∙ ap₂ finite_search (settings_are ws) (newcomer ws c.args.c))
-    (sym c.allowed.ensures ∙ c.if-not-allowed.false) (omega (arith, c.standing_count-n.ensures, c.if-n-ge32.false))
+    (sym c.connection_allowed.ensures ∙ c.if-not-connection_allowed.false) (omega (arith, c.standing_count-n.ensures, c.if-n-ge32.false))
     (omega (arith, rate_is, c.cycle.ensures, c.if-cycle-rate.false)))
     written.ensures

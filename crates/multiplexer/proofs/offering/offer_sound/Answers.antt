@@ -7,6 +7,7 @@ use Rattle.meaning.specs.Calls.{after_offer}
 use Rattle.words.specs.Contents.{contents}
 use Rattle.words.proofs.Counts.{sound_fitting}
 use Rattle.words.proofs.TestedSound.{sound_contents}
+use Rattle.words.proofs.Ranges.{contained}
 use Rattle.envelope.specs.Record.{Ready}
 use Rattle.multiplexer.proofs.Offers.{stands_as, number_within, row_ready, answer_unknown, answer_length, answer_unfit}
 use Rattle.multiplexer.proofs.Offers.{answer_full, answer_accepted, refused, taken}
@@ -16,17 +17,17 @@ use Rattle.std.proofs.Common.{Err}
 pub standing_count-requires : goal.standing_count-requires
 standing_count-requires c = sound_fitting c.args.ws.now c.requires
 
-pub returns-then-not-is_within : goal.returns-then-not-is_within
+pub returns-then-not-contains : goal.returns-then-not-contains
 unfolding after_offer
-returns-then-not-is_within c =
+returns-then-not-contains c =
     let ws = c.args.ws.now in
     let n = c.args.n in
     let units = c.args.units in
     refused ws n units c.requires (Err Refusal.NoConnection)
     (answer_unknown (contents ws) n units (sound_contents ws c.requires)
     (stands_as (contents ws) n c.standing_count.result c.standing_count.ensures
-    c.is_within.result c.is_within.ensures
-    (c.if-not-is_within.true))) refl
+    c.contains.result (contained _ _ c.contains.ensures.value c.new.ensures.start c.new.ensures.end c.new.ensures.exhausted)
+    (c.if-not-contains.true))) refl
 
 pub read_row-row-requires : goal.read_row-row-requires
 read_row-row-requires c =
@@ -35,13 +36,13 @@ read_row-row-requires c =
     let units = c.args.units in
     let k = number_within ws n
     (stands_as (contents ws) n c.standing_count.result c.standing_count.ensures
-    c.is_within.result c.is_within.ensures
-    (c.if-not-is_within.false)) in
+    c.contains.result (contained _ _ c.contains.ensures.value c.new.ensures.start c.new.ensures.end c.new.ensures.exhausted)
+    (c.if-not-contains.false)) in
     (sound_fitting ws c.requires, k.0, k.1)
 
-pub returns-then-not-is_within-2 : goal.returns-then-not-is_within-2
+pub returns-then-not-contains-2 : goal.returns-then-not-contains-2
 unfolding after_offer
-returns-then-not-is_within-2 c =
+returns-then-not-contains-2 c =
     let ws = c.args.ws.now in
     let n = c.args.n in
     let units = c.args.units in
@@ -49,10 +50,10 @@ returns-then-not-is_within-2 c =
     refused ws n units c.requires (Err Refusal.WrongLength)
     (answer_length (contents ws) n units (sound_contents ws c.requires)
     (stands_as (contents ws) n c.standing_count.result c.standing_count.ensures
-    c.is_within.result c.is_within.ensures
-    (c.if-not-is_within.false))
-    (ap (λ q. within 1 units q.longest) row.ensures.0 ∙ sym c.is_within-2.ensures ∙
-    c.if-not-is_within-2.true)) refl
+    c.contains.result (contained _ _ c.contains.ensures.value c.new.ensures.start c.new.ensures.end c.new.ensures.exhausted)
+    (c.if-not-contains.false))
+    (ap (λ q. within 1 units q.longest) row.ensures.0 ∙ sym (contained _ _ c.contains-2.ensures.value c.new-2.ensures.start c.new-2.ensures.end c.new-2.ensures.exhausted) ∙
+    c.if-not-contains-2.true)) refl
 
 pub counter-requires : goal.counter-requires
 counter-requires c =
@@ -67,8 +68,8 @@ conforming-requires c =
     subst (Ready row.result) (sym c.counter.ensures)
     (row_ready ws n row.result c.requires
     (stands_as (contents ws) n c.standing_count.result c.standing_count.ensures
-    c.is_within.result c.is_within.ensures
-    (c.if-not-is_within.false)) row.ensures.0 row.ensures.1)
+    c.contains.result (contained _ _ c.contains.ensures.value c.new.ensures.start c.new.ensures.end c.new.ensures.exhausted)
+    (c.if-not-contains.false)) row.ensures.0 row.ensures.1)
 
 pub returns-then-not-conforming : goal.returns-then-not-conforming
 unfolding after_offer
@@ -80,10 +81,10 @@ returns-then-not-conforming c =
     refused ws n units c.requires (Err Refusal.NotFitting)
     (answer_unfit (contents ws) n units (sound_contents ws c.requires)
     (stands_as (contents ws) n c.standing_count.result c.standing_count.ensures
-    c.is_within.result c.is_within.ensures
-    (c.if-not-is_within.false))
-    (ap (λ q. within 1 units q.longest) row.ensures.0 ∙ sym c.is_within-2.ensures ∙
-    c.if-not-is_within-2.false)
+    c.contains.result (contained _ _ c.contains.ensures.value c.new.ensures.start c.new.ensures.end c.new.ensures.exhausted)
+    (c.if-not-contains.false))
+    (ap (λ q. within 1 units q.longest) row.ensures.0 ∙ sym (contained _ _ c.contains-2.ensures.value c.new-2.ensures.start c.new-2.ensures.end c.new-2.ensures.exhausted) ∙
+    c.if-not-contains-2.false)
     (ap₂ (λ q a. conforms q a (contents ws).counter) row.ensures.0 row.ensures.1 ∙
     (ap (conforms row.result.asked row.result.allowance) (sym c.counter.ensures) ∙
     sym c.conforming.ensures ∙ c.if-not-conforming.true))) refl
@@ -102,10 +103,10 @@ returns-then-waiting_count-ge1024 c =
     refused ws n units c.requires (Err Refusal.StoreFull)
     (answer_full (contents ws) n units (sound_contents ws c.requires)
     (stands_as (contents ws) n c.standing_count.result c.standing_count.ensures
-    c.is_within.result c.is_within.ensures
-    (c.if-not-is_within.false))
-    (ap (λ q. within 1 units q.longest) row.ensures.0 ∙ sym c.is_within-2.ensures ∙
-    c.if-not-is_within-2.false)
+    c.contains.result (contained _ _ c.contains.ensures.value c.new.ensures.start c.new.ensures.end c.new.ensures.exhausted)
+    (c.if-not-contains.false))
+    (ap (λ q. within 1 units q.longest) row.ensures.0 ∙ sym (contained _ _ c.contains-2.ensures.value c.new-2.ensures.start c.new-2.ensures.end c.new-2.ensures.exhausted) ∙
+    c.if-not-contains-2.false)
     (ap₂ (λ q a. conforms q a (contents ws).counter) row.ensures.0 row.ensures.1 ∙
     (ap (conforms row.result.asked row.result.allowance) (sym c.counter.ensures) ∙
     sym c.conforming.ensures ∙ c.if-not-conforming.false))
@@ -120,11 +121,11 @@ accept-requires c =
     record {
       sound_words_lem = c.requires;
       number_stands = stands_as (contents ws) n c.standing_count.result
-          c.standing_count.ensures c.is_within.result c.is_within.ensures
-          (c.if-not-is_within.false);
+          c.standing_count.ensures c.contains.result (contained _ _ c.contains.ensures.value c.new.ensures.start c.new.ensures.end c.new.ensures.exhausted)
+          (c.if-not-contains.false);
       row_asked = row.ensures.0;
       row_allowance = row.ensures.1;
-      permitted = sym c.is_within-2.ensures ∙ c.if-not-is_within-2.false;
+      permitted = sym (contained _ _ c.contains-2.ensures.value c.new-2.ensures.start c.new-2.ensures.end c.new-2.ensures.exhausted) ∙ c.if-not-contains-2.false;
       fit = (ap (conforms row.result.asked row.result.allowance) (sym c.counter.ensures) ∙
           sym c.conforming.ensures ∙ c.if-not-conforming.false);
       room = omega (arith, c.waiting_count.ensures, c.if-waiting_count-ge1024.false);
@@ -140,10 +141,10 @@ returns c =
     taken ws n units c.requires a.new.ws a.result a.ensures.0
     (answer_accepted (contents ws) n units (sound_contents ws c.requires)
     (stands_as (contents ws) n c.standing_count.result c.standing_count.ensures
-    c.is_within.result c.is_within.ensures
-    (c.if-not-is_within.false))
-    (ap (λ q. within 1 units q.longest) row.ensures.0 ∙ sym c.is_within-2.ensures ∙
-    c.if-not-is_within-2.false)
+    c.contains.result (contained _ _ c.contains.ensures.value c.new.ensures.start c.new.ensures.end c.new.ensures.exhausted)
+    (c.if-not-contains.false))
+    (ap (λ q. within 1 units q.longest) row.ensures.0 ∙ sym (contained _ _ c.contains-2.ensures.value c.new-2.ensures.start c.new-2.ensures.end c.new-2.ensures.exhausted) ∙
+    c.if-not-contains-2.false)
     (ap₂ (λ q a. conforms q a (contents ws).counter) row.ensures.0 row.ensures.1 ∙
     (ap (conforms row.result.asked row.result.allowance) (sym c.counter.ensures) ∙
     sym c.conforming.ensures ∙ c.if-not-conforming.false))

@@ -1,62 +1,41 @@
+use Rattle.std.proofs.Common.{◌≡◌, ℕ, ◌+◌, ◌*◌, ◌-◌, ◌<◌, ◌≤◌, ◌&&◌, true, ap, ◌∙◌, rules, arith}
 use Rattle.laws.specs.Series.{series, series_next, series_done}
-use Rattle.words.specs.Tested.{packets_fit}
+use Rattle.meaning.specs.declared.Packet.{Packet}
+use Rattle.meaning.specs.Box.{Box}
 use Rattle.words.specs.Contents.{contents, packet_at}
-use Rattle.words.specs.Places.{word}
-use native.Mathlib.Omega.{arith}
-use mathlib.Core.Path.{◌≡◌, sym, ap, ◌∙◌}
-use Prim.Native.Nat.{◌+◌, ◌-◌}
+use Rattle.words.specs.Tested.{packet_fits, packets_fit}
 use Rattle.soundness.proofs.packets.packets_fit.Goals as goal
 
-pub loop-i-init : goal.loop-i-init
-loop-i-init c =
-    let a = c.args in
-    let ws = a.ws.now in
-    let e : a.count - 0 ≡ a.count = omega arith in
-    (omega arith, omega arith, ap (λ n. packets_fit (contents ws) a.rank 0 (series (packet_at ws) 4 a.start n)) e)
+-- The packets from number i on fit if it fits, and those behind it.
+fits_next : (box : Box) (rank before : ℕ) (f : ℕ → Packet) (start count i : ℕ) → i < count
+    → packets_fit box rank before (series f 4 (start + 4 * i) (count - i))
+    ≡ (packet_fits box rank before (f (start + 4 * i)) &&
+    packets_fit box rank (f (start + 4 * i)).serial (series f 4 (start + 4 * (i + 1)) (count - (i + 1))))
+unfolding packets_fit
+fits_next box rank before f start count i h =
+    (let e : start + 4 * i + 4 ≡ start + 4 * (i + 1) = omega arith in
+    ap (packets_fit box rank before) (series_next f 4 (start + 4 * i) count i h) ∙
+    ap (λ at. packet_fits box rank before (f (start + 4 * i)) && packets_fit box rank (f (start + 4 * i)).serial (series f 4 at (count - (i + 1)))) e)
 
-pub packet_fits-requires : goal.packet_fits-requires
-packet_fits-requires c = (c.requires.0, omega (arith, c.requires.1))
+-- Behind the last packet nothing is left to fit.
+fits_end : (box : Box) (rank before : ℕ) (f : ℕ → Packet) (at count i : ℕ) → count ≤ i → packets_fit box rank before (series f 4 at (count - i)) ≡ true
+unfolding packets_fit
+fits_end box rank before f at count i h = ap (packets_fit box rank before) (series_done f 4 at count i h)
 
 pub returns-then-not-packet_fits : goal.returns-then-not-packet_fits
-unfolding packets_fit
 returns-then-not-packet_fits c =
-    let s = c.loop-i in
     let a = c.args in
-    let ws = a.ws.now in
-    sym (sym s.invariant.2 ∙ rw (
-      series_next (packet_at ws) 4 s.at a.count s.i c.loop-i-test.true,
-      sym c.packet_fits.ensures ∙ c.if-not-packet_fits.true,
-    ))
-
-pub offset_bounds-ws-at : goal.offset_bounds-ws-at
-offset_bounds-ws-at c = omega (arith, c.requires.1)
-
-pub bounds-ws-at : goal.bounds-ws-at
-bounds-ws-at c =
-    omega (arith, c.requires.1)
-
-pub overflow_add-at : goal.overflow_add-at
-overflow_add-at c =
-    omega (arith, c.requires.1)
+    let next = fits_next (contents a.ws.now) a.rank c.loop-i.before (packet_at a.ws.now) a.start a.count c.loop-i.i c.loop-i-test.true in
+    search rules
 
 pub loop-i-preserved : goal.loop-i-preserved
-unfolding packets_fit packet_at
 loop-i-preserved c =
-    let s = c.loop-i in
     let a = c.args in
-    let ws = a.ws.now in
-    let e : packets_fit (contents ws) a.rank s.before (series (packet_at ws) 4 s.at (a.count - s.i)) ≡
-    packets_fit (contents ws) a.rank (word ws s.at) (series (packet_at ws) 4 (s.at + 4) (a.count - (s.i + 1))) =
-    rw (
-      series_next (packet_at ws) 4 s.at a.count s.i c.loop-i-test.true,
-      sym c.packet_fits.ensures ∙ c.if-not-packet_fits.false,
-    ) in
-    (omega arith, omega arith, sym e ∙ s.invariant.2)
+    let next = fits_next (contents a.ws.now) a.rank c.loop-i.before (packet_at a.ws.now) a.start a.count c.loop-i.i c.loop-i-test.true in
+    search rules
 
 pub returns : goal.returns
-unfolding packets_fit
 returns c =
-    let s = c.loop-i in
     let a = c.args in
-    let ws = a.ws.now in
-    sym (sym s.invariant.2 ∙ rw (series_done (packet_at ws) 4 s.at a.count s.i c.loop-i-test.false))
+    let end = fits_end (contents a.ws.now) a.rank c.loop-i.before (packet_at a.ws.now) (a.start + 4 * c.loop-i.i) a.count c.loop-i.i c.loop-i-test.false in
+    search rules

@@ -1,61 +1,60 @@
-use Rattle.tables.specs.Opening.{asked}
-use Rattle.meaning.specs.Numbers.{settings_allowed}
+use Rattle.std.proofs.Common.{◌≡◌, ◌+◌, ◌-◌, ◌≤◌, ◌<◌, ℕ, List, length, rules, arith, ap, take, drop, eqb, sym, ◌∙◌, drop-drop}
+use Rattle.std.proofs.lemmas.Bool.{lt-leb, le-leb}
+use Rattle.std.proofs.lemmas.List.{drop-take, take-take}
+use Rattle.std.proofs.lemmas.List.Edits.{length-between}
+use Rattle.std.specs.List.{between, IsSplitAt}
+use Rattle.laws.specs.Series.{series_take}
+use Rattle.laws.specs.Tests.{every}
+use Rattle.words.proofs.Ranges.{zeros_between}
 use Rattle.words.specs.Sound.{zeros}
-use Rattle.laws.specs.Series.{series, series_take}
-use Rattle.words.specs.Tested.{settings_tested}
+use Rattle.words.specs.Places.{word, box_words, interval_at, cycle_at, classes_at, factors_at, row_count_at}
 use Rattle.words.specs.Contents.{settings_at}
-use Rattle.words.specs.Places.{word, interval_at, cycle_at, classes_at, factors_at, row_count_at}
-use lib.ListN.{take, drop}
-use lib.Dec.{leb}
-use mathlib.Core.Bool.{true, false, and-false}
-use borrow.Author.Tests.{le-leb, lt-leb}
-use native.Mathlib.Omega.{arith}
-use mathlib.Core.Path.{◌≡◌, sym, ap, ◌∙◌}
-use Prim.Native.Nat.{◌+◌, ◌-◌}
+use Rattle.words.specs.Tested.{settings_tested}
+use Rattle.tables.specs.Opening.{asked}
 use Rattle.soundness.proofs.settings.settings_tested.Goals as goal
 
-pub returns-then-count-gt8 : goal.returns-then-count-gt8
+-- There are places for eight factors.
+eight_places : (ws : List ℕ) → box_words ≤ length ws → length (between factors_at row_count_at ws) ≡ 8
+eight_places ws h = length-between ws factors_at row_count_at (omega arith)
+
+-- What is left of a stretch of m words behind its first n.
+rest_of : (ws : List ℕ) (k n m : ℕ) → n ≤ m → drop n (take m (drop k ws)) ≡ between (k + n) (k + m) ws
+rest_of ws k n m h =
+    (let e : n + (m - n) ≡ m = omega arith in
+    let g : k + m - (k + n) ≡ m - n = omega arith in
+    ap (λ j. drop n (take j (drop k ws))) (sym e) ∙ drop-take n (m - n) (drop k ws) ∙ ap (take (m - n)) (drop-drop n k ws) ∙
+    ap (λ j. take j (drop (k + n) ws)) (sym g))
+
+-- The first factors of their eight places are those of the settings, and the others are not used.
+factors_split : (ws fs unused : List ℕ) → box_words ≤ length ws
+    → IsSplitAt (between factors_at row_count_at ws) (word ws classes_at) fs unused
+    → (word ws classes_at ≤ 8) × (settings_at ws ≡ asked (word ws interval_at) (word ws cycle_at) fs)
+    × (every (λ w. eqb w 0) unused ≡ zeros ws (factors_at + word ws classes_at) (row_count_at - (factors_at + word ws classes_at)))
+unfolding settings_at
+factors_split ws fs unused h s =
+    let n = word ws classes_at in
+    let few : n ≤ 8 = omega (arith, s.0, eight_places ws h) in (
+      few,
+      ap (asked (word ws interval_at) (word ws cycle_at)) (series_take ws factors_at n (omega arith) ∙ sym (s.1 ∙ take-take n 8 (drop factors_at ws) few)),
+      ap (every (λ w. eqb w 0)) (s.2 ∙ rest_of ws factors_at n 8 few) ∙ zeros_between ws (factors_at + n) row_count_at (omega arith) (omega arith),
+    )
+
+pub returns-in_default : goal.returns-in_default
 unfolding settings_tested
-returns-then-count-gt8 c =
-    let ws = c.args.ws.now in
-    let e : leb (word ws classes_at) 8 ≡ false = lt-leb (word ws classes_at) 8 (omega (arith, c.wide-count.ensures.0)) in
-    simp e
+returns-in_default c =
+    let few : 8 < word c.args.ws.now classes_at = omega (arith, c.in_default.ensures.cases, eight_places c.args.ws.now c.requires) in
+    let l = lt-leb (word c.args.ws.now classes_at) 8 few in search rules
 
-pub returns-then-not-settings_allowed : goal.returns-then-not-settings_allowed
-unfolding settings_tested settings_at
-returns-then-not-settings_allowed c =
-    let ws = c.args.ws.now in
-    let n : factors_at + c.wide-count.result - factors_at ≡ word ws classes_at = omega (arith, c.wide-count.ensures.0) in
-    let s : take (factors_at + c.wide-count.result - factors_at) (drop factors_at ws)
-    ≡ series (λ i. word ws i) 1 factors_at (word ws classes_at) =
-    ap (λ m. take m (drop factors_at ws)) n ∙ sym (series_take ws factors_at (word ws classes_at)
-    (omega (
-      arith,
-      c.if-count-gt8.false,
-      c.wide-count.ensures.0,
-      c.requires,
-    ))) in
-    let e : settings_allowed (settings_at ws) ≡ false =
-    sym (ap (λ fs. settings_allowed (asked (word ws interval_at) (word ws cycle_at) fs)) s) ∙ sym c.settings_allowed.ensures ∙
-    c.if-not-settings_allowed.true in
-    simp (e, and-false)
+pub returns-then-settings_allowed : goal.returns-then-settings_allowed
+unfolding settings_tested
+returns-then-settings_allowed c =
+    let s = factors_split c.args.ws.now c.in-Some.factors.now c.in-Some.unused.now c.requires c.in-Some.ensures.cases in
+    let l = le-leb (word c.args.ws.now classes_at) 8 s.0 in
+    search rules
 
-pub returns : goal.returns
-unfolding settings_tested settings_at
-returns c =
-    let ws = c.args.ws.now in
-    let w = c.wide-count.ensures.0 in
-    let n : factors_at + c.wide-count.result - factors_at ≡ word ws classes_at = omega arith in
-    let s : take (factors_at + c.wide-count.result - factors_at) (drop factors_at ws)
-    ≡ series (λ i. word ws i) 1 factors_at (word ws classes_at) =
-    ap (λ m. take m (drop factors_at ws)) n ∙ sym (series_take ws factors_at (word ws classes_at)
-    (omega (
-      arith,
-      c.if-count-gt8.false,
-      c.requires,
-    ))) in
-    let e : settings_allowed (settings_at ws) ≡ true = sym (ap (λ fs. settings_allowed (asked (word ws interval_at) (word ws cycle_at) fs)) s) ∙
-    sym c.settings_allowed.ensures ∙ c.if-not-settings_allowed.false in
-    let l : leb (word ws classes_at) 8 ≡ true = le-leb (word ws classes_at) 8
-    (omega (arith, c.if-count-gt8.false)) in
-    c.are_zero.ensures ∙ ap (λ m. zeros ws (factors_at + m) (row_count_at - (factors_at + m))) w ∙ sym (simp (l, e))
+pub returns-else-settings_allowed : goal.returns-else-settings_allowed
+unfolding settings_tested
+returns-else-settings_allowed c =
+    let s = factors_split c.args.ws.now c.in-Some.factors.now c.in-Some.unused.now c.requires c.in-Some.ensures.cases in
+    let l = le-leb (word c.args.ws.now classes_at) 8 s.0 in
+    search rules

@@ -1,9 +1,7 @@
+use Rattle.std.proofs.Common.{◌+◌, arith, sym, ap, ◌∙◌}
 use Rattle.words.proofs.Same.{waiting_length}
 use Rattle.words.specs.Places.{word, lengths_at}
 use Rattle.words.specs.Contents.{contents}
-use native.Mathlib.Omega.{arith}
-use mathlib.Core.Path.{sym, ap, ◌∙◌}
-use Prim.Native.Nat.{◌+◌}
 use Rattle.store.proofs.queues.waiting_at.Goals as goal
 
 pub place_of-requires : goal.place_of-requires
@@ -14,5 +12,4 @@ pub returns : goal.returns
 unfolding contents
 returns c =
     let ws = c.args.ws.now in
-    c.wide.ensures.0 ∙ ap (λ p. word ws (lengths_at + p)) c.place_of.ensures.0 ∙
-    sym (waiting_length ws c.args.tag c.requires.1)
+    ap (λ p. word ws (lengths_at + p)) c.place_of.ensures.0 ∙ sym (waiting_length ws c.args.tag c.requires.1)

@@ -1,35 +1,16 @@
-use Rattle.words.specs.Places.{word}
-use lib.Dec.{eqb}
-use Rattle.laws.specs.Series.{every_stop, every_next, every_end}
-use Rattle.words.specs.Sound.{zeros}
-use borrow.Author.Tests.{eq-eqb, ne_eqb}
-use native.Mathlib.Omega.{arith}
-use mathlib.Core.Path.{sym, ◌∙◌}
+use Rattle.std.proofs.Common.{rules}
+use Rattle.std.proofs.Common.{eqb}
+use Rattle.std.proofs.lemmas.Iterator.{YieldsList-from_slice}
+use Rattle.std.proofs.lemmas.Iterator.Search.{all_from_yields_List}
+use Rattle.std.proofs.lemmas.List.Recursion.{same_from_clauses}
+use Rattle.std.specs.List.{list_all}
+use borrow.Author.Tests.{tests}
+use Rattle.std.proofs.Common.{refl, ◌&&◌, ◌∙◌}
+use Rattle.laws.specs.Tests.{every}
 use Rattle.words.proofs.numbers.are_zero.Goals as goal
 
-pub returns-then-ws-i-ne0 : goal.returns-then-ws-i-ne0
-unfolding zeros
-returns-then-ws-i-ne0 c =
-    let a = c.args in
-    let i = c.loop-i.i in
-    sym (sym c.loop-i.invariant.2 ∙
-    every_stop (λ w. eqb w 0) (λ j. word a.ws.now j) 1 i a.to i c.loop-i-test.true (ne_eqb _ 0 c.if-ws-i-ne0.true))
-
-pub loop-i-preserved : goal.loop-i-preserved
-unfolding zeros
-loop-i-preserved c =
-    let a = c.args in
-    let i = c.loop-i.i in (
-      omega arith,
-      omega arith,
-      sym (every_next (λ w. eqb w 0) (λ j. word a.ws.now j) 1 i a.to i c.loop-i-test.true
-          (eq-eqb _ 0 c.if-ws-i-ne0.false)) ∙
-          c.loop-i.invariant.2,
-    )
-
 pub returns : goal.returns
-unfolding zeros
+unfolding every
 returns c =
-    let a = c.args in
-    let i = c.loop-i.i in
-    sym (sym c.loop-i.invariant.2 ∙ every_end (λ w. eqb w 0) (λ j. word a.ws.now j) 1 i a.to i c.loop-i-test.false)
+    all_from_yields_List (λ w. eqb w 0) _ _ _ c.all.ensures.ran (YieldsList-from_slice c.args.words.now cc) (λ x b q k. search (rules, tests)) ∙
+    same_from_clauses (list_all (λ w. eqb w 0)) (every (λ w. eqb w 0)) (λ w b. eqb w 0 && b) refl (λ _ _. refl) (λ _ _. refl) c.args.words.now
