@@ -18,15 +18,12 @@ pub fn admit_all(ws: &mut [u32], table: &[u8], numbers: &mut [u32], out: &mut [u
     ensures { Admits (admissions_of table.now (contents ws.old)) (length table.now / 16)
         ws.new numbers.new out.old out.new result }
 {
-    let count = table.len() / 16;
-    let mut at: usize = 0;
-    let mut i: usize = 0;
-    while i < count {
+    let mut at = 0;
+    for i in 0..table.len() / 16 {
         let c = connection(table, i);
         let told = tell_admitted(admit_sound(ws, c));
         at = put_admit(out, at, (i + 1) as u32, told[0], told[2]);
         numbers[i] = told[1];
-        i += 1;
     }
     at
 }

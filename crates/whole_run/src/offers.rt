@@ -26,14 +26,11 @@ pub fn offer_all(
     ensures { Offers (offers_of numbers.now due.now from (contents ws.old)) ws.new
         out.old out.new start result }
 {
-    let count = due.len() / 12;
     let mut at = start;
-    let mut i: usize = 0;
-    while i < count {
+    for i in 0..due.len() / 12 {
         let a = arrival(due, i);
         let told = tell_offered(offer_sound(ws, number_of(numbers, a.place), a.units));
         at = put_offer(out, at, (from + i + 1) as u32, told[0], told[1]);
-        i += 1;
     }
     at
 }

@@ -24,14 +24,14 @@ pub run_open-requires : goal.run_open-requires
 run_open-requires c =
     let done = c.in-Done.is in
     let text : run_text c.args.plan.now ≡ text_of (open_run (contents_of (words_of c.args.plan.now) c.args.h)) =
-    run_opened c.args.plan.now c.args.h c.requires.0 c.classes-table.result.now c.copy_factors.new.factors c.box_room-ws.result
-    c.classes-table.ensures c.copy_factors.ensures c.box_room-ws.ensures.size c.open-opened.ensures done in
+    run_opened c.args.plan.now c.args.h c.requires.0 c.classes-table.result.now c.copy_factors.new.factors c.zeros-ws.result
+    c.classes-table.ensures c.copy_factors.ensures c.zeros-ws.ensures.size c.open-opened.ensures done in
     record {
       sound = (
-        opens_sound c.args.plan.now c.args.h c.requires.0 c.classes-table.result.now c.copy_factors.new.factors c.box_room-ws.result
-            c.classes-table.ensures c.copy_factors.ensures c.box_room-ws.ensures.size c.open-opened.ensures done,
-        opens_new c.args.plan.now c.args.h c.requires.0 c.classes-table.result.now c.copy_factors.new.factors c.box_room-ws.result
-            c.classes-table.ensures c.copy_factors.ensures c.box_room-ws.ensures.size c.open-opened.ensures done,
+        opens_sound c.args.plan.now c.args.h c.requires.0 c.classes-table.result.now c.copy_factors.new.factors c.zeros-ws.result
+            c.classes-table.ensures c.copy_factors.ensures c.zeros-ws.ensures.size c.open-opened.ensures done,
+        opens_new c.args.plan.now c.args.h c.requires.0 c.classes-table.result.now c.copy_factors.new.factors c.zeros-ws.result
+            c.classes-table.ensures c.copy_factors.ensures c.zeros-ws.ensures.size c.open-opened.ensures done,
         c.requires.0,
       );
       room = subst (Room c.args.out.now 0) text c.requires.1;
@@ -41,21 +41,21 @@ pub returns-in-Done : goal.returns-in-Done
 returns-in-Done c =
     let run = c.run_open in
     let text : run_text c.args.plan.now ≡ text_of (open_run (contents_of (words_of c.args.plan.now) c.args.h)) =
-    run_opened c.args.plan.now c.args.h c.requires.0 c.classes-table.result.now c.copy_factors.new.factors c.box_room-ws.result
-    c.classes-table.ensures c.copy_factors.ensures c.box_room-ws.ensures.size c.open-opened.ensures c.in-Done.is in
+    run_opened c.args.plan.now c.args.h c.requires.0 c.classes-table.result.now c.copy_factors.new.factors c.zeros-ws.result
+    c.classes-table.ensures c.copy_factors.ensures c.zeros-ws.ensures.size c.open-opened.ensures c.in-Done.is in
     subst (λ l. Put c.args.out.now run.new.out 0 l run.result) (sym text) run.ensures
 
 pub put_refused-requires : goal.put_refused-requires
 put_refused-requires c =
     let text : run_text c.args.plan.now ≡ line_text (refused_line c.number_of.result) =
-    refused_by_opening c.args.plan.now c.args.h c.requires.0 c.classes-table.result.now c.copy_factors.new.factors c.box_room-ws.result
-    c.classes-table.ensures c.copy_factors.ensures c.box_room-ws.ensures.size c.open-opened.ensures _ c.in-Refused.is ∙ ap (λ n. line_text (refused_line n)) (sym c.number_of.ensures) in
+    refused_by_opening c.args.plan.now c.args.h c.requires.0 c.classes-table.result.now c.copy_factors.new.factors c.zeros-ws.result
+    c.classes-table.ensures c.copy_factors.ensures c.zeros-ws.ensures.size c.open-opened.ensures _ c.in-Refused.is ∙ ap (λ n. line_text (refused_line n)) (sym c.number_of.ensures) in
     subst (Room c.args.out.now 0) text c.requires.1
 
 pub returns-in-Refused : goal.returns-in-Refused
 returns-in-Refused c =
     let put = c.put_refused in
     let text : run_text c.args.plan.now ≡ line_text (refused_line c.number_of.result) =
-    refused_by_opening c.args.plan.now c.args.h c.requires.0 c.classes-table.result.now c.copy_factors.new.factors c.box_room-ws.result
-    c.classes-table.ensures c.copy_factors.ensures c.box_room-ws.ensures.size c.open-opened.ensures _ c.in-Refused.is ∙ ap (λ n. line_text (refused_line n)) (sym c.number_of.ensures) in
+    refused_by_opening c.args.plan.now c.args.h c.requires.0 c.classes-table.result.now c.copy_factors.new.factors c.zeros-ws.result
+    c.classes-table.ensures c.copy_factors.ensures c.zeros-ws.ensures.size c.open-opened.ensures _ c.in-Refused.is ∙ ap (λ n. line_text (refused_line n)) (sym c.number_of.ensures) in
     subst (λ l. Put c.args.out.now put.new.out 0 l put.result) (sym text) put.ensures
