@@ -85,13 +85,10 @@ pub word_of_part :
     (bytes : List ℕ) (a n i : ℕ) → 4 * a + 4 * n ≤ length bytes → i < n → get_or (words_of (take (4 * n) (drop (4 * a) bytes))) i 0 ≡
     get_or (words_of bytes) (a + i) 0
 word_of_part bytes a n i h l =
-    let long : length (take (4 * n) (drop (4 * a) bytes)) ≡ 4 * n = simp (length-take, length-drop) (omega arith) in
-    word_within (take (4 * n) (drop (4 * a) bytes)) i (rw long (omega arith)) ∙
-    word_at_same (take (4 * n) (drop (4 * a) bytes)) bytes (4 * i) (4 * (a + i)) byte ∙
-    sym (word_within bytes (a + i) (omega arith))
-  where
-    byte : (k : ℕ) → k < 4 → get_or (take (4 * n) (drop (4 * a) bytes)) (4 * i + k) 0 ≡ get_or bytes (4 * (a + i) + k) 0
-    byte k b =
-        get_or-take (4 * n) (drop (4 * a) bytes) (4 * i + k) 0 (omega arith) ∙
-        get_or-drop (4 * a) bytes (4 * i + k) 0 ∙
-        ap (λ k. get_or bytes k 0) (omega arith)
+    let rest = drop (4 * a) bytes in
+    let room = length-drop (4 * a) bytes in
+    let long : length (take (4 * n) rest) ≡ 4 * n = simp length-take (omega arith) in
+    word_within (take (4 * n) rest) i (rw long (omega arith)) ∙
+    word_at_same (take (4 * n) rest) rest (4 * i) (4 * i) (λ k b. get_or-take (4 * n) rest (4 * i + k) 0 (omega arith)) ∙
+    sym (word_within rest i (omega arith)) ∙
+    word_of_rest bytes a i

@@ -39,6 +39,7 @@ pub fn arrivals(plan: &[u8], h: Header) -> &[u8]
 }
 
 // The factor numbered i of a class table, counted from 0; 0 past its end.
+#[tactic(auto, unfolding(meaning::specs::Plan::factor_at))]
 pub fn factor(classes: &[u8], i: usize) -> u32
     ensures { result ≡ factor_at (words_of classes.now) i }
 {
@@ -96,7 +97,7 @@ pub fn stretch(arrivals: &[u8], from: usize, slot: u32) -> &[u8]
     ensures { result.now ≡ stretch_of arrivals.now from slot }
 {
     if from > arrivals.len() / 12 {
-        return &arrivals[..0];
+        return &[];
     }
     let limit = u64::from(slot);
     let first = first_from(arrivals, from, limit);

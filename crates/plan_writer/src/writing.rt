@@ -19,7 +19,7 @@ pub struct Lent<'a> {
     pub arrivals: &'a [u32],
 }
 
-impl<'a> Lent<'a> {
+impl Lent<'_> {
     // Counts that are too large, or tables that are not whole entries.
     #[tactic(auto, unfolding(meaning::specs::Plan::lent_wrong))]
     fn is_wrong(self) -> bool
