@@ -7,11 +7,10 @@ use native.Mathlib.Omega.{arith}
 use lib.Dec.{ltb}
 use lib.ListN.{length, get_or, drop, replicate}
 use Rattle.meaning.specs.declared.Refusal.{Refusal}
-use Rattle.meaning.specs.Answers.{refusal, header_fields, plan_read, plan_written}
-use Rattle.meaning.specs.Plan.{Lent, lent_wrong, reading_answer, writing_answer}
+use Rattle.meaning.specs.Answers.{refusal, header_fields, plan_read, plan_written, printed}
+use Rattle.meaning.specs.Plan.{Lent, reading_answer, writing_answer}
 use Rattle.plan.proofs.Good.{read_facts}
 use Rattle.plan_writer.proofs.Calls.{write_facts}
-use Rattle.plan_writer.specs.Written.{lengths_wrong}
 use Rattle.plan_writer.proofs.LentTables.{lengths_facts, size_of_lent}
 use Rattle.meaning.specs.Lines.{run_text, text_most}
 use Rattle.meaning.proofs.RunFits.{run_fits}
@@ -47,11 +46,11 @@ read_fits bytes (Err why) e = zeros 6
 
 -- The size of a plan that was written fits a word.
 pub write_fits : (l : Lent) (buf : List ℕ) (r : Result ℕ Refusal) → r ≡ writing_answer l (length buf) → FitWords (plan_written r).fields
-unfolding plan_written refusal lent_wrong lengths_wrong
+unfolding plan_written refusal
 write_fits l buf (Ok size) e =
     let t = write_facts l buf size (sym e) in
-    let w = lengths_facts (length l.factors) (length l.connections) (length l.arrivals) t.right in
-    let s = size_of_lent l.interval l.cycle l.factors l.connections l.arrivals w in
+    let w = lengths_facts l t.right in
+    let s = size_of_lent l w in
     let d = t.size_is in
     more (omega arith) none
 write_fits l buf (Err why) e = zeros 1

@@ -5,7 +5,7 @@ ghost use Rattle.cabinet.specs.Promises.{ReadPromise, FactorPromise, ConnectionP
 use answers::{tell_read, tell_written};
 use plan::reading::read;
 use plan::tables::{arrival, connection, factor, first_from, stretch};
-use plan_writer::writing::write;
+use plan_writer::writing::{Lent, write};
 
 // Reads the header of a plan once the whole plan is tested: 0, 13, 14, 15 or 16.
 #[unsafe(no_mangle)]
@@ -105,7 +105,14 @@ pub extern "C" fn zeppilorn_write_plan(
     ensures { WritePromise (lent interval cycle factors.now connections.now arrivals.now)
         plan.old result fields.new plan.new }
 {
-    let [answer, size] = tell_written(write(interval, cycle, factors, connections, arrivals, plan));
+    let lent = Lent {
+        interval,
+        cycle,
+        factors,
+        connections,
+        arrivals,
+    };
+    let [answer, size] = tell_written(write(lent, plan));
     *fields = [size];
     answer
 }

@@ -6,10 +6,11 @@ ghost use Rattle.std.specs.Prelude.{◌≤◌, length, IfOk};
 use anyhow::{Context, Result};
 use std::io;
 use std::io::{Read, Write};
-use whole_run::rooms::{plan_room, text_room};
+use whole_run::rooms::{PLAN_ROOM, TEXT_ROOM, zeros};
 use whole_run::running::run_plan;
 
-// Reads until the room is full or the input ends, and says how many bytes at the room's start were read.
+// Reads until the room is full or the input ends, and says how many bytes at the room's start were read. The library has no such call without
+// a heap: `read_exact` wants the room full, and `io::copy` promises nothing of how much of it was filled.
 fn read_full(from: &mut impl Read, room: &mut [u8]) -> io::Result<usize>
     ensures { IfOk result (λ n. n ≤ length room.new) }
 {
@@ -24,19 +25,13 @@ fn read_full(from: &mut impl Read, room: &mut [u8]) -> io::Result<usize>
     Ok(at)
 }
 
-// Writes the text.
-fn put_out(to: &mut impl Write, text: &[u8], size: usize) -> io::Result<()> {
-    if size > text.len() {
-        return Ok(());
-    }
-    to.write_all(&text[..size])
-}
-
 // An input that cannot be read, and lines that cannot be written, end it with an error that says so on standard error.
 fn main(rt: HostRuntime) -> Result<()> {
-    let mut plan = plan_room();
-    let mut text = text_room();
+    let mut plan = zeros::<u8, PLAN_ROOM>();
+    let mut text = zeros::<u8, TEXT_ROOM>();
     let n = read_full(&mut rt.stdin(), &mut plan).context("standard input")?;
     let size = run_plan(&plan[..n], &mut text).context("room for the text")?;
-    put_out(&mut rt.stdout(), &text, size).context("standard output")
+    rt.stdout()
+        .write_all(&text[..size])
+        .context("standard output")
 }

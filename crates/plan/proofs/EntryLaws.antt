@@ -1,6 +1,7 @@
 -- Laws on entries that depend on their own words alone: the same words give the same table; a table without its first entries.
 use Rattle.std.proofs.Common.{◌≡◌, ℕ, zero, suc, ◌+◌, ◌-◌, ◌*◌, ◌<◌, List, ◌∷◌, get_or, drop, refl, ap, ◌∙◌, ap₂, mul-zero, mul-suc, arith}
-use Rattle.meaning.specs.Plan.{table, factor_at, connection_at, arrival_at}
+use Rattle.meaning.specs.Plan.{table, words_of, factor_at, connection_at, arrival_at}
+use Rattle.plan.proofs.WordLaws.{word_of_rest}
 
 -- An entry that depends on its own words alone.
 abbrev pub Local : {A : Type 0} → (List ℕ → ℕ → A) → ℕ → Type 0
@@ -41,6 +42,12 @@ module _ {A : Type 0} (entry : List ℕ → ℕ → A) (width : ℕ) where
       ap (λ m. get_or ws m 0) (omega arith) ∙
       e (width + k) (omega (arith, mul-suc width n)) ∙
       ap (λ m. get_or vs m 0) (omega arith)))
+
+  -- The first entry of the rest is the entry of the whole at the word where the rest starts.
+  pub entry_of_rest : Local entry width → (bytes : List ℕ) (a : ℕ) → entry (words_of (drop (4 * a) bytes)) 0 ≡ entry (words_of bytes) a
+  entry_of_rest own bytes a =
+      own (words_of (drop (4 * a) bytes)) (words_of bytes) 0 a (λ k h.
+      ap (λ m. get_or (words_of (drop (4 * a) bytes)) m 0) (omega arith) ∙ word_of_rest bytes a k)
 
   -- A table without its first m entries starts m entries further on.
   pub drop_table : (ws : List ℕ) (i n m : ℕ) → drop m (table entry width ws i n) ≡ table entry width ws (i + width * m) (n - m)

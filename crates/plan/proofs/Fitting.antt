@@ -1,10 +1,24 @@
--- When entries of some bytes each fit between an offset and the end.
-use Rattle.std.proofs.Common.{ℕ, ◌+◌, ◌-◌, ◌*◌, ◌/◌, ◌<◌, ◌≤◌, div-lt_iff_lt-mul, le-div_iff_mul-le, arith}
+-- The part of a plan that a table's offset, its count and the width of an entry tell.
+use Rattle.std.proofs.Common.{◌≡◌, ℕ, ◌+◌, ◌-◌, ◌*◌, ◌^◌, ◌<◌, ◌≤◌, min, List, [], length, Option, Some, None, Bor, ⊎_elim, ◌∙◌, arith, mul_comm, le-leb}
+use native.Mathlib.Nat.{add-sub_cancel_left}
+use borrow.Author.Tests.{lt-leb}
+use Rattle.std.specs.Option.{unwrap_or}
+use Rattle.std.specs.Slice.{IsGetRangeResult}
+use Rattle.meaning.specs.declared.Table.{Table}
+use Rattle.plan.specs.Parts.{part_of}
 
--- Entries that are no more than the room divided by their width end within the plan.
-pub entries_fit : (size start count width : ℕ) → 0 < width → start ≤ size → count ≤ (size - start) / width → start + width * count ≤ size
-entries_fit size start count width w s h = omega (arith, (le-div_iff_mul-le {k = width} {x = count} {y = size - start} w).0 h)
-
--- Entries that are more than that end behind the plan.
-pub entries_over : (size start count width : ℕ) → 0 < width → (size - start) / width < count → size < start + width * count
-entries_over size start count width w h = omega (arith, (div-lt_iff_lt-mul {k = width} {x = size - start} {y = count} w).0 h)
+-- What stands between a table's offset and its end, which stays below 2^64, is its part; where nothing stands there, neither does the part.
+pub looked_up :
+    (bytes : List ℕ) (t : Table) (width end : ℕ) (r : Option (Bor (List ℕ))) (none : Bor (List ℕ)) →
+    length bytes < 2 ^ 64 - 1 → t.start < 2 ^ 64 → end ≡ min (min (t.count * width) (2 ^ 64 - 1) + t.start) (2 ^ 64 - 1) →
+    IsGetRangeResult bytes t.start end r → none.now ≡ [] → (unwrap_or r none).now ≡ part_of bytes t width
+unfolding part_of
+looked_up bytes t width end None none short start ends found empty =
+    let turned = mul_comm t.count width in
+    let over : length bytes < t.start + width * t.count = ⊎_elim (λ a. omega arith) (λ b. omega arith) found.0 in
+    empty ∙ rw (lt-leb _ _ over)
+looked_up bytes t width end (Some x) none short start ends found empty =
+    let turned = mul_comm t.count width in
+    let size : end ≡ t.start + width * t.count = omega (arith, found.0.1) in
+    let fits : t.start + width * t.count ≤ length bytes = omega (arith, found.0.1) in
+    found.0.2 ∙ rw (size, le-leb _ _ fits, add-sub_cancel_left)

@@ -1,88 +1,88 @@
 -- What a pass over words or arrivals adds or tests at each step, and what is left at its end.
-use Rattle.std.proofs.Common.{◌≡◌, ℕ, ◌+◌, ◌*◌, ◌%◌, ◌^◌, ◌<◌, ◌≤◌, Bool, true, false, not, ◌&&◌, leb, List, [], ◌∷◌, length, get_or, drop, sym, ap, ◌∙◌, add_assoc, add-one, arith, drop_of_length-le, drop-cons, le-ltb, lt-ltb, le-leb}
+use Rattle.std.proofs.Common.{◌≡◌, ℕ, suc, ◌+◌, ◌/◌, ◌%◌, ◌^◌, ◌<◌, ◌≤◌, Bool, true, false, not, ◌&&◌, leb, List, [], ◌∷◌, ◌++◌, map, length, get_or, ◌⊎◌, inl, inr, sym, ap, ap₂, ◌∙◌, add_assoc, arith, drop_of_length-le, le-leb, length-append}
 use mathlib.Core.Bool.{and-false}
 use native.Mathlib.Nat.{mod-add-mod}
 use borrow.Author.Tests.{lt-leb}
+use lib.ListN.{get_or-append}
+use Rattle.std.proofs.lemmas.List.{get_or-map, length-map, map-append, get_or-append_right}
+use Rattle.std.specs.List.{fold}
 use Rattle.laws.specs.Tests.{every}
 use Rattle.laws.specs.Sums.{sum_of}
 use Rattle.meaning.specs.declared.Arrival.{Arrival}
 use Rattle.meaning.specs.Plan.{never_falling_from, last_arrival_slot, slots_wrong, table, arrival_at}
-use Rattle.plan.specs.Entries.{get_or_table}
-use Rattle.plan.specs.Parts.{leading, boundary, no_arrival}
+use Rattle.plan.specs.Parts.{arrivals_of_words, leading, boundary}
+use Rattle.plan.proofs.EntryLaws.{table_same, arrival_local}
 
--- The sum of what is left of a list of words.
-unfoldable pub sum_from : List ℕ → ℕ → ℕ
-sum_from ws i = sum_of (λ w. w) (drop i ws)
-
--- A word added to the sum leaves the sum of the rest from the next word on.
-pub sum_step :
-    (ws : List ℕ) (i sum t : ℕ) → i < length ws → (sum + sum_from ws i) % 2 ^ 32 ≡ t →
-    ((sum + get_or ws i 0) % 2 ^ 32 + sum_from ws (i + 1)) % 2 ^ 32 ≡ t
-unfolding sum_from sum_of
-sum_step ws i sum t h e =
-    rw (mod-add-mod, add-one, add_assoc) (rw (drop-cons ws i 0 h) at e)
-
--- Where no word is left, the sum is the whole.
-pub sum_end : (ws : List ℕ) (i sum t : ℕ) → length ws ≤ i → sum < 2 ^ 32 → (sum + sum_from ws i) % 2 ^ 32 ≡ t → sum ≡ t
-unfolding sum_from sum_of
-sum_end ws i sum t h l e =
-    let none : drop i ws ≡ [] = drop_of_length-le ws h in
-    let f : (sum + 0) % 2 ^ 32 ≡ t = rw none at e in
-    omega arith
+-- Words added one after another to a first number, each sum modulo 2^32, are their sum added to it, modulo 2^32.
+pub sum_wraps :
+    {A : Type 0} (word : A → ℕ) (first : ℕ) (ws : List A) → first < 2 ^ 32 →
+    fold (λ sum w. (sum + word w) % 2 ^ 32) first ws ≡ (first + sum_of word ws) % 2 ^ 32
+unfolding sum_of
+sum_wraps word first [] h = omega arith
+sum_wraps word first (w ∷ ws) h =
+    sum_wraps word ((first + word w) % 2 ^ 32) ws (omega arith) ∙
+    mod-add-mod (first + word w) (2 ^ 32) (sum_of word ws) ∙
+    ap (λ n. n % 2 ^ 32) (add_assoc first (word w) (sum_of word ws))
 
 -- The slots of arrivals never fall, none is below `low` and none exceeds the largest.
 unfoldable pub slots_good_from : ℕ → List Arrival → Bool
 slots_good_from low l = never_falling_from low l && every (λ a. leb a.slot last_arrival_slot) l
 
-module _ (l : List Arrival) (i : ℕ) (h : i < length l) where
-  -- What is left of a list at place i is its element there and what is left behind it.
-  next : drop i l ≡ get_or l i no_arrival ∷ drop (i + 1) l
-  next = rw add-one (drop-cons l i no_arrival h)
+-- Words that begin with an entry, the first word of which is the slot, and go on behind it.
+module _ {A : Type 0} (value : A → ℕ) (words entry rest : List A) (first : A) (slot : ℕ)
+    (cut : words ≡ entry ++ rest) (three : length entry ≡ 3) (is : first ≡ get_or entry 0 first) (told : slot ≡ value first) where
+  -- The entry is an arrival, and what is behind it are the arrivals behind that.
+  next : arrivals_of_words (map value words) ≡ arrival_at (map value entry) 0 ∷ arrivals_of_words (map value rest)
+  unfolding arrivals_of_words table
+  next =
+      let xs = map value entry in
+      let ys = map value rest in
+      let n = length ys / 3 in
+      let long : length xs ≡ 3 = length-map entry value ∙ three in
+      let more : length (xs ++ ys) / 3 ≡ suc n = omega (arith, length-append xs ys) in
+      ap (λ l. arrivals_of_words (map value l)) cut ∙
+      ap arrivals_of_words (map-append value entry rest) ∙
+      ap (table arrival_at 3 (xs ++ ys) 0) more ∙
+      ap₂ ◌∷◌
+      (arrival_local (xs ++ ys) xs 0 0 (λ k h. get_or-append xs ys 0 (0 + k) (omega arith)))
+      (table_same arrival_at 3 arrival_local (xs ++ ys) ys 3 0 n (λ k h.
+      get_or-append_right xs ys 3 (3 + k) 0 long (omega arith) ∙ ap (λ i. get_or ys i 0) (omega arith)))
+
+  -- The slot of that arrival is its first word.
+  slot_is : (arrival_at (map value entry) 0).slot ≡ slot
+  unfolding arrival_at
+  slot_is = get_or-map value entry 0 first 0 (omega arith) ∙ ap value (sym is) ∙ sym told
 
   -- An arrival whose slot is in order passes the test, and the rest is tested from its slot on.
   pub slots_next :
-      (low : ℕ) → low ≤ (get_or l i no_arrival).slot → (get_or l i no_arrival).slot ≤ last_arrival_slot → slots_good_from low (drop i l) ≡
-      slots_good_from (get_or l i no_arrival).slot (drop (i + 1) l)
+      (low : ℕ) → low ≤ slot → slot ≤ last_arrival_slot →
+      slots_good_from low (arrivals_of_words (map value words)) ≡ slots_good_from slot (arrivals_of_words (map value rest))
   unfolding slots_good_from never_falling_from every
-  slots_next low a b = rw next (rw (le-leb _ _ a, le-leb _ _ b))
+  slots_next low a b = rw next (rw slot_is (rw (le-leb _ _ a, le-leb _ _ b)))
 
-  -- An arrival whose slot is below the one before it fails the test.
-  pub slots_fall : (low : ℕ) → (get_or l i no_arrival).slot < low → slots_good_from low (drop i l) ≡ false
+  -- An arrival whose slot is below the one before it, or exceeds the largest, fails the test.
+  pub slots_fail :
+      (low : ℕ) → (slot < low) ⊎ ((low ≤ slot) × (last_arrival_slot < slot)) →
+      slots_good_from low (arrivals_of_words (map value words)) ≡ false
   unfolding slots_good_from never_falling_from every
-  slots_fall low a = rw next (rw (lt-leb _ _ a))
+  slots_fail low (inl a) = rw next (rw slot_is (rw (lt-leb _ _ a)))
+  slots_fail low (inr b) = rw next (rw slot_is (rw (lt-leb _ _ b.1) (and-false _)))
 
-  -- An arrival whose slot exceeds the largest fails the test.
-  pub slots_exceed : (low : ℕ) → last_arrival_slot < (get_or l i no_arrival).slot → slots_good_from low (drop i l) ≡ false
-  unfolding slots_good_from never_falling_from every
-  slots_exceed low a =
-      rw next (rw (lt-leb _ _ a) (and-false (never_falling_from low (get_or l i no_arrival ∷ drop (i + 1) l))))
-
-  -- An arrival before the limit moves the boundary behind it.
-  pub boundary_next : (limit : ℕ) → (get_or l i no_arrival).slot < limit → boundary l i limit ≡ boundary l (i + 1) limit
-  unfolding boundary leading
-  boundary_next limit a = rw next (rw (lt-ltb _ _ a) (omega arith))
-
-  -- An arrival at the limit or after it is the boundary.
-  pub boundary_here : (limit : ℕ) → limit ≤ (get_or l i no_arrival).slot → boundary l i limit ≡ i
-  unfolding boundary leading
-  boundary_here limit a = rw next (rw (le-ltb _ _ a) (omega arith))
-
--- Where no arrival is left, the test passes.
-pub slots_end : (l : List Arrival) (i low : ℕ) → length l ≤ i → slots_good_from low (drop i l) ≡ true
-unfolding slots_good_from never_falling_from every
-slots_end l i low h = rw (drop_of_length-le l h)
-
--- Where no arrival is left, the boundary is where it is looked for from.
-pub boundary_end : (l : List Arrival) (i limit : ℕ) → length l ≤ i → boundary l i limit ≡ i
-unfolding boundary leading
-boundary_end l i limit h = rw (drop_of_length-le l h) (omega arith)
+-- Where less than an entry is left, the test passes.
+pub slots_end :
+    {A : Type 0} (value : A → ℕ) (low : ℕ) (rest : List A) → length rest < 3 →
+    slots_good_from low (arrivals_of_words (map value rest)) ≡ true
+unfolding slots_good_from never_falling_from every arrivals_of_words table
+slots_end value low rest h =
+    let none : length (map value rest) / 3 ≡ 0 = omega (arith, length-map rest value) in
+    rw none
 
 -- The test of the slots answers the opposite of what the pass found.
 pub slots_answer : (l : List Arrival) (good : Bool) → slots_good_from 0 l ≡ good → not good ≡ slots_wrong l
 unfolding slots_good_from slots_wrong
 slots_answer l good e = ap not (sym e)
 
--- The slot of an arrival is the first of its words.
-pub slot_at : (ws : List ℕ) (n i : ℕ) → i < n → (get_or (table arrival_at 3 ws 0 n) i no_arrival).slot ≡ get_or ws (3 * i) 0
-unfolding arrival_at
-slot_at ws n i h = ap (λ a. a.slot) (get_or_table arrival_at 3 ws 0 n i no_arrival h) ∙ ap (λ k. get_or ws k 0) (omega arith)
+-- Where no arrival is left, the boundary is where it is looked for from.
+pub boundary_end : (l : List Arrival) (i limit : ℕ) → length l ≤ i → boundary l i limit ≡ i
+unfolding boundary leading
+boundary_end l i limit h = rw (drop_of_length-le l h) (omega arith)

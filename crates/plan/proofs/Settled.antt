@@ -1,10 +1,11 @@
 -- Answers that satisfy one promise are the same, for each public function.
-use Rattle.std.proofs.Common.{◌≡◌, ℕ, Bool, List, sym, ◌∙◌, Result}
+use Rattle.std.proofs.Common.{◌≡◌, ℕ, ◌+◌, ◌%◌, ◌^◌, Bool, List, map, sym, ◌∙◌, Result}
+use Rattle.laws.specs.Sums.{sum_of}
 use Rattle.meaning.specs.declared.Table.{Table}
-use Rattle.meaning.specs.Plan.{counts_allowed, words_of, factor_at, connection_at, arrival_at, reading_answer}
+use Rattle.meaning.specs.Plan.{counts_allowed, words_of, factor_at, connection_at, arrival_at, slots_wrong, reading_answer}
 use Rattle.meaning.specs.declared.Connection.{Connection}
 use Rattle.meaning.specs.declared.Arrival.{Arrival}
-use Rattle.plan.specs.Parts.{part_of, arrivals_in, boundary, stretch_of}
+use Rattle.plan.specs.Parts.{part_of, arrivals_in, arrivals_of_words, boundary, stretch_of}
 use Rattle.meaning.specs.declared.Refusal.{Refusal}
 use Rattle.meaning.specs.declared.Header.{Header}
 
@@ -49,3 +50,15 @@ first_from_settled bytes from limit r s = one
 pub stretch_settled :
     (bytes : List ℕ) (from slot : ℕ) (r s : List ℕ) → r ≡ stretch_of bytes from slot → s ≡ stretch_of bytes from slot → r ≡ s
 stretch_settled bytes from slot r s = one
+
+-- Two answers of `slots_wrong` are the same.
+pub slots_settled :
+    {W : Type 0} (value : W → ℕ) (ws : List W) (r s : Bool) → r ≡ slots_wrong (arrivals_of_words (map value ws)) →
+    s ≡ slots_wrong (arrivals_of_words (map value ws)) → r ≡ s
+slots_settled value ws r s = one
+
+-- Two answers of `sum` are the same.
+pub sum_settled :
+    {W : Type 0} (value : W → ℕ) (first : ℕ) (ws : List W) (r s : ℕ) → r ≡ (first + sum_of value ws) % 2 ^ 32 →
+    s ≡ (first + sum_of value ws) % 2 ^ 32 → r ≡ s
+sum_settled value first ws r s = one

@@ -1,8 +1,12 @@
 -- What the stretch of a slot holds, and the walk over the slots in order.
-use Rattle.std.proofs.Common.{◌≡◌, ℕ, ◌+◌, ◌-◌, ◌*◌, ◌/◌, ◌<◌, ◌≤◌, true, List, [], length, get_or, take, drop, sym, ap, ◌∙◌, ap₂, arith, length-drop, length-take}
+use Rattle.std.proofs.Common.{◌≡◌, ℕ, zero, suc, ◌∷◌, map, cond, nat_lt, slice_index, refl, drop-drop, ◌+◌, ◌-◌, ◌*◌, ◌/◌, ◌<◌, ◌≤◌, true, List, [], length, get_or, take, drop, sym, ap, ◌∙◌, ap₂, arith, length-drop, length-take}
+use Rattle.std.proofs.lemmas.List.Folds.{length-prefix_len}
+use Rattle.std.specs.List.{prefix_len, take_while}
+use Rattle.std.specs.Simd.{first_chunks}
 use Rattle.meaning.specs.Plan.{words_of, table, arrival_at, never_falling_from, arrivals_of}
 use Rattle.plan.specs.Entries.{get_or_table, take_table}
-use Rattle.plan.proofs.EntryLaws.{drop_table, arrival_local}
+use Rattle.plan.proofs.EntryLaws.{table_same, drop_table, arrival_local}
+use Rattle.plan.proofs.WordLaws.{word_of_rest, word_of_part}
 use Rattle.plan.specs.Parts.{arrivals_in, leading, boundary, stretch_start, stretch_end, stretch_of, no_arrival}
 use Rattle.plan.proofs.LaidOut.{part_table}
 use Rattle.plan.proofs.Slots.{slot_together, leading_next, leading_passed, leading_none}
@@ -52,6 +56,67 @@ arrivals_of_part bytes a n h =
     sym
     (ap (take n) (drop_table arrival_at 3 (words_of bytes) 0 (length bytes / 12) a) ∙
     take_table arrival_at 3 (words_of bytes) (0 + 3 * a) (length bytes / 12 - a) n (omega arith))
+
+-- The arrivals in the rest of a table are those behind the entries before it.
+pub arrivals_from : (bytes : List ℕ) (a : ℕ) → arrivals_in (drop (12 * a) bytes) ≡ drop a (arrivals_in bytes)
+unfolding arrivals_in
+arrivals_from bytes a =
+    let n = length bytes / 12 - a in
+    let long : length (drop (12 * a) bytes) / 12 ≡ n = omega (arith, length-drop (12 * a) bytes) in
+    let start : 12 * a ≡ 4 * (3 * a) = omega arith in
+    ap (table arrival_at 3 (words_of (drop (12 * a) bytes)) 0) long ∙
+    ap (λ x. table arrival_at 3 (words_of (drop x bytes)) 0 n) start ∙
+    table_same arrival_at 3 arrival_local (words_of (drop (4 * (3 * a)) bytes)) (words_of bytes) 0 (0 + 3 * a) n (λ k h.
+    word_of_rest bytes (3 * a) (0 + k) ∙ ap (λ i. get_or (words_of bytes) i 0) (omega arith)) ∙
+    sym (drop_table arrival_at 3 (words_of bytes) 0 (length bytes / 12) a)
+
+-- Chunks of twelve bytes are the arrivals, so many from the entry k on.
+arrivals_of_chunks :
+    (bytes : List ℕ) (k n : ℕ) → 12 * (k + n) ≤ length bytes →
+    map (λ e. arrival_at (words_of e) 0) (first_chunks 12 n (drop (12 * k) bytes)) ≡ table arrival_at 3 (words_of bytes) (3 * k) n
+unfolding table
+arrivals_of_chunks bytes k zero h = refl
+arrivals_of_chunks bytes k (suc n) h =
+    let start : 12 * k ≡ 4 * (3 * k) = omega arith in
+    let rest : drop 12 (drop (12 * k) bytes) ≡ drop (12 * (k + 1)) bytes = drop-drop 12 (12 * k) bytes ∙ ap (λ i. drop i bytes) (omega arith) in
+    let on : 3 * (k + 1) ≡ 3 * k + 3 = omega arith in
+    ap₂ ◌∷◌
+    (ap (λ i. arrival_at (words_of (take 12 (drop i bytes))) 0) start ∙
+    arrival_local (words_of (take 12 (drop (4 * (3 * k)) bytes))) (words_of bytes) 0 (3 * k) (λ i b.
+    word_of_part bytes (3 * k) 3 (0 + i) (omega arith) (omega arith) ∙ ap (λ j. get_or (words_of bytes) j 0) (omega arith)))
+    (ap (λ b. map (λ e. arrival_at (words_of e) 0) (first_chunks 12 n b)) rest ∙
+    arrivals_of_chunks bytes (k + 1) n (omega arith) ∙
+    ap (λ i. table arrival_at 3 (words_of bytes) i n) on)
+
+-- As many arrivals lead as there are chunks at the front whose first word is below the limit.
+leading_chunks :
+    (limit : ℕ) (entries : List (List ℕ)) →
+    prefix_len (λ e. nat_lt (slice_index (words_of e) 0) limit) entries ≡ leading limit (map (λ e. arrival_at (words_of e) 0) entries)
+unfolding leading arrival_at
+leading_chunks limit [] = refl
+leading_chunks limit (e ∷ entries) =
+    let more : 1 + prefix_len (λ e. nat_lt (slice_index (words_of e) 0) limit) entries ≡
+    suc (leading limit (map (λ e. arrival_at (words_of e) 0) entries)) = omega (arith, leading_chunks limit entries) in
+    ap (λ n. cond (nat_lt (slice_index (words_of e) 0) limit) n 0) more
+
+-- So many chunks lie between an entry and the boundary.
+pub boundary_counts :
+    (bytes rest : List ℕ) (entries : List (List ℕ)) (from limit : ℕ) → rest ≡ drop (12 * from) bytes →
+    entries ≡ first_chunks 12 (length rest / 12) rest →
+    from + length (take_while (λ e. nat_lt (slice_index (words_of e) 0) limit) entries) ≡ boundary (arrivals_in bytes) from limit
+unfolding boundary arrivals_in
+boundary_counts bytes rest entries from limit e f =
+    let n = length rest / 12 in
+    let start : 3 * 0 ≡ 0 = omega arith in
+    ap (λ k. from + k)
+    (length-prefix_len (λ e. nat_lt (slice_index (words_of e) 0) limit) entries ∙
+    leading_chunks limit entries ∙
+    ap (leading limit)
+    (ap (map (λ e. arrival_at (words_of e) 0)) f ∙
+    arrivals_of_chunks rest 0 n (omega arith) ∙
+    ap (λ i. table arrival_at 3 (words_of rest) i n) start ∙
+    ap arrivals_in e ∙
+    arrivals_from bytes from))
 
 module _ (bytes : List ℕ) (from slot : ℕ) (inside : from ≤ length bytes / 12) where
   -- The stretch holds the entries from its start up to its end.

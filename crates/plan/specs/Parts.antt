@@ -17,6 +17,10 @@ part_of bytes t width =
 unfoldable pub arrivals_in : List ℕ → List Arrival
 arrivals_in bytes = Plan.table Plan.arrival_at 3 (Plan.words_of bytes) 0 (length bytes / 12)
 
+-- The arrivals of a table of words: three words each.
+unfoldable pub arrivals_of_words : List ℕ → List Arrival
+arrivals_of_words ws = Plan.table Plan.arrival_at 3 ws 0 (length ws / 3)
+
 -- How many arrivals at the head of a list have slots below a limit.
 unfoldable pub leading : ℕ → List Arrival → ℕ
 leading limit [] = 0

@@ -3,4 +3,4 @@
 
 pub mod reading;
 pub mod tables;
-mod words;
+pub mod words;

@@ -1,29 +1,22 @@
 // Reading a plan: 13, 14, 15 and 16 in that order, or what its header says.
-ghost use Rattle.std.specs.Prelude.{◌≡◌, ◌≤◌};
+ghost use Rattle.std.specs.Prelude.{◌≡◌, ◌≤◌, map};
 ghost use Rattle.meaning.specs.Plan.{reading_answer, size_wrong, counts_allowed, layout_wrong, slots_wrong, header_of, words_of};
-ghost use Rattle.plan.specs.Parts.{arrivals_in, table_of};
+ghost use Rattle.plan.specs.Parts.{arrivals_of_words, table_of};
 
-use super::words::{number, sum_of_bytes, word};
+use super::words::{Word, number, sum, words};
 use meaning::{Header, Refusal, Table};
 
 // "plan under 40 bytes, above 65,536, not a multiple of 4, or word 0 differs from its size".
+#[tactic(auto, unfolding(meaning::specs::Plan::size_wrong))]
 fn size_wrong(plan: &[u8]) -> bool
     ensures { result ≡ size_wrong plan.now }
 {
     let size = plan.len();
-    if size < 40 {
-        return true;
-    }
-    if size > 65536 {
-        return true;
-    }
-    if size % 4 != 0 {
-        return true;
-    }
-    number(plan, 0) as usize != size
+    size < 40 || size > 65536 || size % 4 != 0 || number(plan, 0) as usize != size
 }
 
 // A table, as two words of the header tell it.
+#[tactic(auto, unfolding(crate::specs::Parts::table_of))]
 fn table(plan: &[u8], i: usize) -> Table
     requires { i ≤ 8 }
     ensures { result ≡ table_of (words_of plan.now) i }
@@ -35,6 +28,7 @@ fn table(plan: &[u8], i: usize) -> Table
 }
 
 // What the words of the header say.
+#[tactic(auto, unfolding(meaning::specs::Plan::header_of, crate::specs::Parts::table_of))]
 fn header(plan: &[u8]) -> Header
     ensures { result ≡ header_of (words_of plan.now) }
 {
@@ -48,59 +42,39 @@ fn header(plan: &[u8]) -> Header
 }
 
 // "Counts: at most 8, 32 and 4,096; zero is allowed in the file."
+#[tactic(auto, unfolding(meaning::specs::Plan::counts_allowed))]
 pub fn counts_allowed(classes: usize, connections: usize, arrivals: usize) -> bool
     ensures { result ≡ counts_allowed classes connections arrivals }
 {
-    if classes > 8 {
-        return false;
-    }
-    if connections > 32 {
-        return false;
-    }
-    arrivals <= 4096
+    classes <= 8 && connections <= 32 && arrivals <= 4096
 }
 
 // "plan counts or offsets are wrong". The counts are limited before they are multiplied.
+#[tactic(auto, using(crate::proofs::LaidOut::counts_few), unfolding(meaning::specs::Plan::layout_wrong))]
 fn layout_wrong(size: usize, h: Header) -> bool
     ensures { result ≡ layout_wrong size h }
 {
     let classes = h.classes;
     let connections = h.connections;
     let arrivals = h.arrivals;
-    if !counts_allowed(classes.count, connections.count, arrivals.count) {
-        return true;
-    }
-    if classes.start != 40 {
-        return true;
-    }
-    let after_classes = 40 + 4 * classes.count;
-    if connections.start != after_classes {
-        return true;
-    }
-    let after_connections = after_classes + 16 * connections.count;
-    if arrivals.start != after_connections {
-        return true;
-    }
-    size != after_connections + 12 * arrivals.count
+    !counts_allowed(classes.count, connections.count, arrivals.count)
+        || classes.start != 40
+        || connections.start != 40 + 4 * classes.count
+        || arrivals.start != connections.start + 16 * connections.count
+        || size != arrivals.start + 12 * arrivals.count
 }
 
-// "arrival slots fall, or one exceeds 1,000,000", of a table of arrivals in bytes.
-fn slots_wrong(arrivals: &[u8]) -> bool
-    ensures { result ≡ slots_wrong (arrivals_in arrivals.now) }
+// "arrival slots fall, or one exceeds 1,000,000", of a table of arrivals in words.
+pub fn slots_wrong<W: Word>(arrivals: &[W]) -> bool
+    ensures { result ≡ slots_wrong (arrivals_of_words (map W.value arrivals.now)) }
 {
-    let count = arrivals.len() / 12;
     let mut low: u32 = 0;
-    let mut i: usize = 0;
-    while i < count {
-        let slot = word(arrivals, 3 * i);
-        if slot < low {
-            return true;
-        }
-        if slot > 1000000 {
+    for arrival in arrivals.chunks_exact(3) {
+        let slot = arrival[0].value();
+        if slot < low || slot > 1000000 {
             return true;
         }
         low = slot;
-        i += 1;
     }
     false
 }
@@ -112,16 +86,14 @@ pub fn read(plan: &[u8]) -> Result<Header, Refusal>
     if size_wrong(plan) {
         return Err(Refusal::WrongSize);
     }
-    if sum_of_bytes(plan) != 0 {
+    if sum(0, words(plan)) != 0 {
         return Err(Refusal::WrongSum);
     }
     let h = header(plan);
     if layout_wrong(plan.len(), h) {
         return Err(Refusal::WrongLayout);
     }
-    let arrivals = h.arrivals;
-    let start = arrivals.start;
-    if slots_wrong(&plan[start..]) {
+    if slots_wrong(words(&plan[h.arrivals.start..])) {
         return Err(Refusal::WrongSlots);
     }
     Ok(h)

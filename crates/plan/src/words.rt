@@ -1,48 +1,53 @@
-// Little-endian 32-bit words in bytes: one read, all added.
-ghost use Rattle.std.specs.Prelude.{◌≡◌, ◌/◌, ◌<◌, length, slice_index};
-ghost use Rattle.meaning.specs.Plan.{words_of, sum_words};
+// Little-endian 32-bit words: the words of bytes, one of them by its number, and all added.
+ghost use Rattle.std.specs.Prelude.{◌≡◌, ◌+◌, ◌%◌, ◌^◌, ℕ, map, slice_index};
+ghost use Rattle.std.specs.Int.{from_le_bytes, w32};
+ghost use Rattle.laws.specs.Sums.{sum_of};
+ghost use Rattle.meaning.specs.Plan.{words_of};
 
-// A byte as a number of 32 bits.
-fn wide(x: u8) -> u32
-    ensures { (result ≡ x) × (result < 256) }
-{
-    x as u32
+// A word: a number, or its four bytes.
+pub trait Word {
+    ghost value: { Self → ℕ };
+
+    // The number.
+    fn value(&self) -> u32
+        ensures { result ≡ value self.now };
 }
 
-// The word numbered i, of those that lie wholly in the bytes.
-pub fn word(bytes: &[u8], i: usize) -> u32
-    requires { i < length bytes.now / 4 }
-    ensures { result ≡ slice_index (words_of bytes.now) i }
-{
-    let at = 4 * i;
-    let a = wide(bytes[at]);
-    let b = wide(bytes[at + 1]);
-    let c = wide(bytes[at + 2]);
-    let d = wide(bytes[at + 3]);
-    a + 256 * b + 65536 * c + 16777216 * d
-}
+impl Word for u32 {
+    ghost value = { λ n. n };
 
-// The word numbered i, or 0 where the bytes end before it.
-pub fn number(bytes: &[u8], i: usize) -> u32
-    ensures { result ≡ slice_index (words_of bytes.now) i }
-{
-    if i < bytes.len() / 4 {
-        word(bytes, i)
-    } else {
-        0
+    fn value(&self) -> u32 {
+        *self
     }
 }
 
-// "wrapping add over all plan words": their sum modulo 2^32.
-pub fn sum_of_bytes(bytes: &[u8]) -> u32
-    ensures { result ≡ sum_words (words_of bytes.now) }
-{
-    let count = bytes.len() / 4;
-    let mut sum: u32 = 0;
-    let mut i: usize = 0;
-    while i < count {
-        sum = std::num::wrapping_add_u32(sum, word(bytes, i));
-        i += 1;
+impl Word for [u8; 4] {
+    ghost value = { from_le_bytes w32 };
+
+    fn value(&self) -> u32 {
+        u32::from_le_bytes(*self)
     }
-    sum
+}
+
+// The words that lie wholly in the bytes.
+pub(crate) fn words(bytes: &[u8]) -> &[[u8; 4]]
+    ensures { map (from_le_bytes w32) result.now ≡ words_of bytes.now }
+{
+    bytes.as_chunks().0
+}
+
+// The number of the word at place i, or 0 where the bytes end before it.
+pub(crate) fn number(bytes: &[u8], i: usize) -> u32
+    ensures { result ≡ slice_index (words_of bytes.now) i }
+{
+    words(bytes).get(i).map_or(0, Word::value)
+}
+
+// "wrapping add over all plan words": their sum modulo 2^32, added to a first number.
+pub fn sum<W: Word>(first: u32, words: &[W]) -> u32
+    ensures { result ≡ (first + sum_of W.value words.now) % 2 ^ 32 }
+{
+    words
+        .iter()
+        .fold(first, |sum: u32, word| sum.wrapping_add(word.value()))
 }

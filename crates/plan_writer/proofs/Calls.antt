@@ -11,7 +11,7 @@ use Rattle.plan_writer.specs.Bytes.{pasted}
 use Rattle.plan.specs.Entries.{length_table}
 use Rattle.plan_writer.proofs.Back.{connections_again, arrivals_again}
 use Rattle.plan_writer.proofs.Sizes.{length_connections, length_arrivals, length_plan}
-use Rattle.plan_writer.specs.Written.{lengths_wrong, bytes_after, bytes_by}
+use Rattle.plan_writer.specs.Written.{bytes_after, bytes_by}
 use Rattle.plan_writer.proofs.LentTables.{lengths_facts, lengths_right, tables_of_lent}
 use Rattle.plan_writer.proofs.Answers.{answer_15, answer_16, answer_17, answer_0}
 use Rattle.plan.proofs.Good.{read_facts}
@@ -55,9 +55,9 @@ write_facts l buf size done =
 
 -- Lent tables that are not refused are contents that fit a plan file.
 lent_writable : (l : Lent) → Fits l → lent_wrong l ≡ false → slots_wrong (lent_plan l).arrivals ≡ false → Writable (lent_plan l)
-unfolding lent_plan lent_wrong lengths_wrong
+unfolding lent_plan
 lent_writable l fits right slots =
-    let w = lengths_facts (length l.factors) (length l.connections) (length l.arrivals) right in
+    let w = lengths_facts l right in
     let front = both_fit l.factors l.connections fits.factors_fit fits.connections_fit in
     let words = both_fit (l.factors ++ l.connections) l.arrivals front fits.arrivals_fit in
     record {
@@ -67,7 +67,7 @@ lent_writable l fits right slots =
       slots_right = slots;
       interval_fits = fits.interval_fits;
       cycle_fits = fits.cycle_fits;
-      tables_fit = λ i. rw (tables_of_lent l.interval l.cycle l.factors l.connections l.arrivals w) (words i);
+      tables_fit = λ i. rw (tables_of_lent l w) (words i);
     }
 
 -- "reading what was written gives the contents"
@@ -100,11 +100,11 @@ lent_again plan =
 lent_right :
     (plan : Plan) → length plan.settings.factors ≤ 8 → length plan.connections ≤ 32 → length plan.arrivals ≤ 4096 →
     lent_wrong (lent_of plan) ≡ false
-unfolding lent_wrong lent_of lengths_wrong
+unfolding lent_of
 lent_right plan f k n =
     let c = length_connections plan.connections in
     let a = length_arrivals plan.arrivals in
-    lengths_right _ _ _
+    lengths_right (lent_of plan)
     (record {
       factors_few = f;
       connections_few = omega arith;

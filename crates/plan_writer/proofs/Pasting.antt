@@ -1,8 +1,9 @@
 -- Laws on bytes put into a buffer: one after another, and none.
-use Rattle.std.proofs.Common.{◌≡◌, ℕ, ◌+◌, ◌*◌, ◌<◌, ◌≤◌, List, [], ◌∷◌, ◌++◌, length, get_or, take, drop, set, sym, refl, ap, ◌∙◌, append_assoc, append-nil, add-zero, add-one, arith, length-append, take-append-drop, length-take, length-take-le, take-suc, drop-drop, take_at}
+use Rattle.std.proofs.Common.{◌≡◌, ℕ, ◌+◌, ◌*◌, ◌<◌, ◌≤◌, List, [], ◌∷◌, ◌++◌, length, get_or, take, drop, sym, refl, ap, ap₂, ◌-◌, ◌∙◌, append_assoc, append-nil, add-zero, add-one, arith, length-append, take-append-drop, length-take, length-take-le, take-suc, drop-drop, take_at}
 use mathlib.Core.List.{flatten}
-use native.Mathlib.Numerals.{towards_suc}
-use lib.Seq.{drop-append-add, sets-eq}
+use lib.Seq.{drop-append-add}
+use borrow.Rule.Slice.PartMut.{put_mid}
+use Rattle.std.specs.Int.{to_le_bytes, w32}
 use Rattle.meaning.specs.Plan.{bytes_of_word}
 use Rattle.plan_writer.specs.Bytes.{bytes_of_words, pasted}
 
@@ -85,16 +86,21 @@ paste_word buf at ws i h r =
         bytes_append (take i ws) (get_or ws i 0 ∷ []) ∙
         ap (λ l. bytes_of_words (take i ws) ++ l) (bytes_one (get_or ws i 0))
 
--- Four stores, one after another, put four bytes.
-pub paste_four :
-    (buf : List ℕ) (at a b c d : ℕ) → at + 4 ≤ length buf → set (set (set (set buf at a) (at + 1) b) (at + 2) c) (at + 3) d ≡
-    pasted buf at (a ∷ b ∷ c ∷ d ∷ [])
+-- Bytes written over a part of their number are put there.
+paste_mid : (buf bytes : List ℕ) (at k : ℕ) → k ≡ length bytes → put_mid at k buf bytes ≡ pasted buf at bytes
 unfolding pasted
-paste_four buf at a b c d h =
-    simp towards_suc
-    (sets-eq (a ∷ b ∷ c ∷ d ∷ []) buf at h ∙
-    append_assoc (take at buf) (a ∷ b ∷ c ∷ d ∷ []) (drop (at + 4) buf) ∙
-    simp towards_suc)
+paste_mid buf bytes at k e = ap (λ l. take at buf ++ (bytes ++ l)) (drop-drop k at buf ∙ ap (λ n. drop (at + n) buf) e)
+
+-- A word written over its four bytes, behind the words before it, is put in one with them.
+pub paste_next :
+    (buf now four : List ℕ) (at : ℕ) (ws : List ℕ) (i : ℕ) → i < length ws → at + 4 * length ws ≤ length buf →
+    now ≡ pasted buf at (bytes_of_words (take i ws)) → four ≡ to_le_bytes w32 (get_or ws i 0) →
+    put_mid (at + 4 * i) (at + 4 * i + 4 - (at + 4 * i)) now four ≡ pasted buf at (bytes_of_words (take (i + 1) ws))
+unfolding bytes_of_word
+paste_next buf now four at ws i h r e f =
+    paste_mid now four (at + 4 * i) (at + 4 * i + 4 - (at + 4 * i)) (omega (arith, ap length f)) ∙
+    ap₂ (λ b l. pasted b (at + 4 * i) l) e f ∙
+    paste_word buf at ws i h r
 
 -- Words put behind words are put in one.
 pub paste_words :

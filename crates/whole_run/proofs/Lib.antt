@@ -12,4 +12,3 @@ pub mod Going
 pub mod Whole
 pub mod Texts
 pub mod Settles
-pub mod Zeroed

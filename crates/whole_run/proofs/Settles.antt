@@ -15,8 +15,8 @@ pub run_plan_settles : (plan entry : List ℕ) (r s : Result ℕ Refusal) (after
     → RunPromise plan entry s left → (r ≡ s) × (after ≡ left)
 run_plan_settles plan entry r s after left p q = (one p.0 q.0, one p.1 q.1)
 
--- `plan_room`, `text_room` and `box_room`.
-pub room_settles : (n : ℕ) (a b : List ℕ) → Zeros n a → Zeros n b → a ≡ b
+-- Two results of `zeros`, of bytes or of words.
+pub room_settles : (n : ℕ) (a b : List ℕ) → Zeros (λ x. x ≡ 0) n a → Zeros (λ x. x ≡ 0) n b → a ≡ b
 room_settles n a b p q =
     let e = p.size in
-    ext_get_or 0 a b (sym e ∙ q.size) (λ i h. p.each i (omega arith) ∙ sym (q.each i (omega arith)))
+    ext_get_or 0 a b (sym e ∙ q.size) (λ i h. p.each i 0 (omega arith) ∙ sym (q.each i 0 (omega arith)))

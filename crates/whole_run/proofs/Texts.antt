@@ -39,6 +39,16 @@ run_text_lem bytes = refl
 pub text_room : (bytes out : List ℕ) → 420000 ≤ length out → Room out 0 (run_text bytes)
 text_room bytes out h = let f = run_fits bytes in omega (arith, f, h)
 
+-- Into a buffer that has room for any text no more bytes are written than it has.
+pub written_within :
+    (bytes : List ℕ) (room size : ℕ) → text_most ≤ room → Printed.Written size ≡ printing_answer bytes room → size ≤ room
+unfolding printing_answer
+written_within bytes room size h e =
+    let whole : Printed.Written size ≡ Printed.Written (length (run_text bytes)) = e ∙ rw (le-ltb room text_most h) refl in
+    let same : size ≡ length (run_text bytes) = cc in
+    let f = run_fits bytes in
+    omega arith
+
 -- Reading refuses: one line.
 module _ (bytes : List ℕ) (answer : Result Header Refusal) (is : answer ≡ reading_answer bytes) where
   -- The lines are those of the answer.

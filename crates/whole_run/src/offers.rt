@@ -27,7 +27,6 @@ pub fn offer_all(
     ensures { Offers (offers_of numbers.now due.now from (contents ws.old)) ws.new
         out.old out.new start result }
 {
-    let count = due.len() / 12;
     let mut at = start;
     for i in 0..count {
         let a = arrival(due, i);

@@ -6,14 +6,10 @@ ghost use Rattle.meaning.specs.Run.{number_of, place_of};
 pub fn number_of(numbers: &[u32], place: u32) -> u32
     ensures { result ≡ number_of numbers.now place }
 {
-    let at = place as usize;
-    if at == 0 {
+    let Some(i) = place.checked_sub(1) else {
         return 0;
-    }
-    if at > numbers.len() {
-        return 0;
-    }
-    numbers[at - 1]
+    };
+    numbers.get(i as usize).copied().unwrap_or(0)
 }
 
 // The place in the file of the connection of this number.
@@ -21,12 +17,8 @@ pub fn place_of(numbers: &[u32], n: u32) -> u32
     requires { length numbers.now ≤ 32 }
     ensures { result ≡ place_of 1 numbers.now n }
 {
-    let mut i: usize = 0;
-    while i < numbers.len() {
-        if numbers[i] == n {
-            return (i + 1) as u32;
-        }
-        i += 1;
-    }
-    0
+    numbers
+        .iter()
+        .position(|m| *m == n)
+        .map_or(0, |i| (i + 1) as u32)
 }

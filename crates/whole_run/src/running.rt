@@ -11,13 +11,14 @@ ghost use Rattle.lines.specs.Put.{Room, Put};
 ghost use Rattle.whole_run.specs.Printing.{RunPromise};
 
 use super::admissions::admit_all;
-use super::rooms::box_room;
+use super::rooms::zeros;
 use super::slots::run_slots;
 use lines::put;
 use meaning::{Header, Line, Refusal};
 use plan::reading::read;
 use plan::tables::{arrivals, classes, connections, factor};
 use tables::opening::open;
+use words::places::BOX_WORDS;
 
 // The factors of the class table, and zeros after its end.
 fn copy_factors(classes: &[u8], factors: &mut [u32])
@@ -47,7 +48,7 @@ fn run_read(plan: &[u8], h: Header, out: &mut [u8]) -> usize
     requires { Readable plan.now h × Room out.old 0 (run_text plan.now) }
     ensures { Put out.old out.new 0 (run_text plan.now) result }
 {
-    let mut ws = box_room();
+    let mut ws = zeros::<u32, BOX_WORDS>();
     let mut factors = [0u32; 8];
     let table = classes(plan, h);
     copy_factors(table, &mut factors);

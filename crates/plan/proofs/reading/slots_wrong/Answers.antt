@@ -1,42 +1,36 @@
-use Rattle.std.proofs.Common.{◌+◌, ◌/◌, ◌<◌, ◌≤◌, true, false, length, drop, sym, refl, ap, ◌∙◌, arith}
-use Rattle.meaning.specs.Plan.{words_of}
-use Rattle.plan.specs.Parts.{arrivals_in}
-use Rattle.plan.specs.Entries.{length_table}
-use Rattle.plan.proofs.Passes.{slots_good_from, slots_next, slots_fall, slots_exceed, slots_end, slots_answer, slot_at}
+use Rattle.std.proofs.Common.{true, false, map, sym, ◌∙◌, arith}
+use Rattle.std.specs.Slice.Iter.{chunks_exact_rest}
+use Rattle.plan.specs.Parts.{arrivals_of_words}
+use Rattle.plan.proofs.Passes.{slots_next, slots_fail, slots_end, slots_answer}
 use Rattle.plan.proofs.reading.slots_wrong.Goals as goal
 
 pub returns-then-slot-low : goal.returns-then-slot-low
-unfolding arrivals_in
-returns-then-slot-low c =
-    let l = c.loop-i in
-    let bytes = c.args.arrivals.now in
-    let short : l.i < length (arrivals_in bytes) = rw length_table (omega arith) in
-    let slot = slot_at (words_of bytes) (length bytes / 12) l.i (omega arith) ∙ sym c.word-slot.ensures in
-    slots_answer (arrivals_in bytes) false (sym l.invariant.2 ∙ slots_fall (arrivals_in bytes) l.i short l.low (omega (arith, slot)))
+returns-then-slot-low g c =
+    let l = c.loop-arrival in
+    let step = c.in-Some.ensures.steps in
+    let first = c.index-arrival-0 in
+    slots_answer (arrivals_of_words (map g.W.Word.value c.args.arrivals.now)) false
+    (sym l.invariant.same_test ∙
+    slots_fail g.W.Word.value (chunks_exact_rest l.arrival-iterator) c.in-Some.arrival.now (chunks_exact_rest c.next.new.self) first.result c.value-slot.result
+    step.1.0 (step.1.1 ∙ l.invariant.by_three) first.is c.value-slot.ensures l.low c.then-slot-low.either)
 
-pub returns-then-slot-gt1000000 : goal.returns-then-slot-gt1000000
-unfolding arrivals_in
-returns-then-slot-gt1000000 c =
-    let l = c.loop-i in
-    let bytes = c.args.arrivals.now in
-    let short : l.i < length (arrivals_in bytes) = rw length_table (omega arith) in
-    let slot = slot_at (words_of bytes) (length bytes / 12) l.i (omega arith) ∙ sym c.word-slot.ensures in
-    slots_answer (arrivals_in bytes) false (sym l.invariant.2 ∙ slots_exceed (arrivals_in bytes) l.i short l.low (omega (arith, slot)))
-
-pub loop-i-preserved : goal.loop-i-preserved
-unfolding arrivals_in
-loop-i-preserved c =
-    let l = c.loop-i in
-    let bytes = c.args.arrivals.now in
-    let short : l.i < length (arrivals_in bytes) = rw length_table (omega arith) in
-    let slot = slot_at (words_of bytes) (length bytes / 12) l.i (omega arith) ∙ sym c.word-slot.ensures in
-    let next = slots_next (arrivals_in bytes) l.i short l.low (omega (arith, slot)) (omega (arith, slot)) in
-    (omega arith, refl, ap (λ s. slots_good_from s (drop (l.i + 1) (arrivals_in bytes))) (sym slot) ∙ sym next ∙ l.invariant.2)
+pub loop-arrival-preserved : goal.loop-arrival-preserved
+loop-arrival-preserved g c =
+    let l = c.loop-arrival in
+    let step = c.in-Some.ensures.steps in
+    let first = c.index-arrival-0 in
+    record {
+      by_three = step.0 ∙ l.invariant.by_three;
+      same_test =
+          sym (slots_next g.W.Word.value (chunks_exact_rest l.arrival-iterator) c.in-Some.arrival.now (chunks_exact_rest c.next.new.self)
+          first.result c.value-slot.result step.1.0 (step.1.1 ∙ l.invariant.by_three) first.is c.value-slot.ensures
+          l.low c.if-slot-low.false c.if-slot-gt1000000.false) ∙ l.invariant.same_test;
+    }
 
 pub returns : goal.returns
-unfolding arrivals_in
-returns c =
-    let l = c.loop-i in
-    let bytes = c.args.arrivals.now in
-    let end : length (arrivals_in bytes) ≤ l.i = rw length_table (omega arith) in
-    slots_answer (arrivals_in bytes) true (sym l.invariant.2 ∙ slots_end (arrivals_in bytes) l.i l.low end)
+returns g c =
+    let l = c.loop-arrival in
+    let step = c.in-None.ensures.steps in
+    slots_answer (arrivals_of_words (map g.W.Word.value c.args.arrivals.now)) true
+    (sym l.invariant.same_test ∙
+    slots_end g.W.Word.value l.low (chunks_exact_rest l.arrival-iterator) (omega (arith, step.1.0, l.invariant.by_three)))

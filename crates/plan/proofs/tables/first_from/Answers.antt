@@ -1,34 +1,17 @@
-use Rattle.std.proofs.Common.{◌/◌, ◌<◌, ◌≤◌, length, sym, refl, ◌∙◌, arith}
+use Rattle.std.proofs.Common.{◌+◌, List, ℕ, Bool, nat_lt, slice_index, ap, ◌∙◌, rules, tests}
+use Rattle.std.proofs.lemmas.Iterator.{YieldsList-from_slice}
+use Rattle.std.proofs.lemmas.Iterator.Consumers.{YieldsList-at, count_from_yields_List}
+use Rattle.std.proofs.lemmas.Iterator.Search.{YieldsList-from_take_while}
 use Rattle.meaning.specs.Plan.{words_of}
-use Rattle.plan.specs.Parts.{arrivals_in}
-use Rattle.plan.specs.Entries.{length_table}
-use Rattle.plan.proofs.Passes.{boundary_next, boundary_here, boundary_end, slot_at}
+use Rattle.plan.proofs.Stretch.{boundary_counts}
 use Rattle.plan.proofs.tables.first_from.Goals as goal
 
-pub returns-then-slot-limit : goal.returns-then-slot-limit
-unfolding arrivals_in
-returns-then-slot-limit c =
-    let l = c.loop-i in
-    let a = c.args in
-    let bytes = a.arrivals.now in
-    let short : l.i < length (arrivals_in bytes) = rw length_table (omega arith) in
-    let slot = slot_at (words_of bytes) (length bytes / 12) l.i (omega arith) ∙ sym c.word-slot.ensures in
-    sym (boundary_here (arrivals_in bytes) l.i short a.limit (omega (arith, slot))) ∙ l.invariant.1
-
-pub loop-i-preserved : goal.loop-i-preserved
-unfolding arrivals_in
-loop-i-preserved c =
-    let l = c.loop-i in
-    let a = c.args in
-    let bytes = a.arrivals.now in
-    let short : l.i < length (arrivals_in bytes) = rw length_table (omega arith) in
-    let slot = slot_at (words_of bytes) (length bytes / 12) l.i (omega arith) ∙ sym c.word-slot.ensures in
-    (refl, sym (boundary_next (arrivals_in bytes) l.i short a.limit (omega (arith, slot))) ∙ l.invariant.1)
-
 pub returns : goal.returns
-unfolding arrivals_in
 returns c =
-    let l = c.loop-i in
     let a = c.args in
-    let end : length (arrivals_in a.arrivals.now) ≤ l.i = rw length_table (omega arith) in
-    sym (boundary_end (arrivals_in a.arrivals.now) l.i a.limit end) ∙ l.invariant.1
+    let w = c.take_while.ensures in
+    let test : List ℕ → Bool = λ e. nat_lt (slice_index (words_of e) 0) a.limit in
+    ap (λ n. a.from + n)
+    (count_from_yields_List c.take_while.result c.count-before.result c.count-before.ensures.ran
+    (YieldsList-from_take_while _ test (YieldsList-at w.source (YieldsList-from_slice _ c.iter.ensures.rest)) w.closure w.done (λ x b q k. search (rules, tests)))) ∙
+    boundary_counts a.arrivals.now c.rest.result.now c.as_chunks.result.0.now a.from a.limit c.rest.ensures c.as_chunks.ensures.front

@@ -1,67 +1,45 @@
 use Rattle.std.proofs.Common.{sym, ◌∙◌, arith}
-use Rattle.meaning.specs.Plan.{lent_wrong, lent_plan}
-use Rattle.plan_writer.specs.Written.{arrivals_of_words}
-use Rattle.plan_writer.specs.Written.{lent, lengths_wrong}
-use Rattle.plan_writer.proofs.LentTables.{lengths_facts, size_of_lent}
+use Rattle.plan_writer.specs.Written.{tables_of}
+use Rattle.plan_writer.proofs.LentTables.{arrivals_lent, lengths_facts, size_of_lent}
 use Rattle.plan_writer.proofs.Answers.{answer_15, answer_16, answer_17, answer_0}
 use Rattle.plan_writer.proofs.writing.write.Goals as goal
 
-pub returns-then-lent_wrong : goal.returns-then-lent_wrong
-unfolding lent_wrong lengths_wrong
-returns-then-lent_wrong c =
-    let a = c.args in
-    let e = answer_15 (lent a.interval a.cycle a.factors.now a.connections.now a.arrivals.now) a.buf.now
-    (sym c.lent_wrong.ensures ∙ c.if-lent_wrong.true) in
+pub returns-then-is_wrong : goal.returns-then-is_wrong
+returns-then-is_wrong c =
+    let e = answer_15 (tables_of c.args.lent) c.args.buf.now (sym c.is_wrong.ensures ∙ c.if-is_wrong.true) in
     record { answer = e.0; bytes = e.1 }
 
 pub returns-then-slots_wrong : goal.returns-then-slots_wrong
-unfolding lent_wrong lengths_wrong lent_plan arrivals_of_words
 returns-then-slots_wrong c =
-    let a = c.args in
-    let e = answer_16 (lent a.interval a.cycle a.factors.now a.connections.now a.arrivals.now) a.buf.now
-    (sym c.lent_wrong.ensures ∙ c.if-lent_wrong.false)
-    (sym c.slots_wrong.ensures ∙ c.if-slots_wrong.true) in
+    let l = tables_of c.args.lent in
+    let e = answer_16 l c.args.buf.now (sym c.is_wrong.ensures ∙ c.if-is_wrong.false)
+    (sym (arrivals_lent l) ∙ sym c.slots_wrong.ensures ∙ c.if-slots_wrong.true) in
     record { answer = e.0; bytes = e.1 }
 
-pub overflow_add-size-2 : goal.overflow_add-size-2
-overflow_add-size-2 c =
-    let l = lengths_facts _ _ _ (sym c.lent_wrong.ensures ∙ c.if-lent_wrong.false) in
-    omega arith
-
-pub overflow_add-size-3 : goal.overflow_add-size-3
-overflow_add-size-3 c =
-    let l = lengths_facts _ _ _ (sym c.lent_wrong.ensures ∙ c.if-lent_wrong.false) in
-    omega arith
+pub size-size-requires : goal.size-size-requires
+size-size-requires c = lengths_facts (tables_of c.args.lent) (sym c.is_wrong.ensures ∙ c.if-is_wrong.false)
 
 pub returns-then-buf-size : goal.returns-then-buf-size
-unfolding lent_wrong lengths_wrong lent_plan arrivals_of_words
 returns-then-buf-size c =
-    let a = c.args in
-    let l = lengths_facts _ _ _ (sym c.lent_wrong.ensures ∙ c.if-lent_wrong.false) in
-    let size = size_of_lent a.interval a.cycle a.factors.now a.connections.now a.arrivals.now l in
-    let e = answer_17 (lent a.interval a.cycle a.factors.now a.connections.now a.arrivals.now) a.buf.now
-    (sym c.lent_wrong.ensures ∙ c.if-lent_wrong.false)
-    (sym c.slots_wrong.ensures ∙ c.if-slots_wrong.false)
-    (omega (arith, size)) in
+    let l = tables_of c.args.lent in
+    let right = sym c.is_wrong.ensures ∙ c.if-is_wrong.false in
+    let size = size_of_lent l (lengths_facts l right) in
+    let e = answer_17 l c.args.buf.now right (sym (arrivals_lent l) ∙ sym c.slots_wrong.ensures ∙ c.if-slots_wrong.false) (omega (arith, size)) in
     record { answer = e.0; bytes = e.1 }
 
-pub put_plan-requires : goal.put_plan-requires
-put_plan-requires c =
-    let l = lengths_facts _ _ _ (sym c.lent_wrong.ensures ∙ c.if-lent_wrong.false) in
-    record { lengths = l; room = omega arith }
+pub put-requires-clause-lengths : goal.put-requires-clause-lengths
+put-requires-clause-lengths c = lengths_facts (tables_of c.args.lent) (sym c.is_wrong.ensures ∙ c.if-is_wrong.false)
 
 pub returns : goal.returns
-unfolding lent_wrong lengths_wrong lent_plan arrivals_of_words
 returns c =
-    let a = c.args in
-    let l = lengths_facts _ _ _ (sym c.lent_wrong.ensures ∙ c.if-lent_wrong.false) in
-    let size = size_of_lent a.interval a.cycle a.factors.now a.connections.now a.arrivals.now l in
-    let e = answer_0 (lent a.interval a.cycle a.factors.now a.connections.now a.arrivals.now) a.buf.now
-    (sym c.lent_wrong.ensures ∙ c.if-lent_wrong.false)
-    (sym c.slots_wrong.ensures ∙ c.if-slots_wrong.false)
+    let l = tables_of c.args.lent in
+    let right = sym c.is_wrong.ensures ∙ c.if-is_wrong.false in
+    let size = size_of_lent l (lengths_facts l right) in
+    let e = answer_0 l c.args.buf.now right
+    (sym (arrivals_lent l) ∙ sym c.slots_wrong.ensures ∙ c.if-slots_wrong.false)
     _
-    c.put_plan.new.buf
-    (sym size)
+    c.put.new.buf
+    (c.size-size.ensures ∙ sym size)
     (omega arith)
-    c.put_plan.ensures in
+    c.put.ensures in
     record { answer = e.0; bytes = e.1 }

@@ -25,14 +25,14 @@ pub run_open-requires : goal.run_open-requires
 run_open-requires c =
     let done = c.in-Ok.is in
     let text : run_text c.args.plan.now ≡ text_of (open_run (contents_of (words_of c.args.plan.now) c.args.h)) =
-    run_opened c.args.plan.now c.args.h c.requires.0 c.classes-table.result.now c.copy_factors.new.factors c.box_room-ws.result
-    c.classes-table.ensures c.copy_factors.ensures c.box_room-ws.ensures.size c.«open».ensures done in
+    run_opened c.args.plan.now c.args.h c.requires.0 c.classes-table.result.now c.copy_factors.new.factors c.zeros-ws.result
+    c.classes-table.ensures c.copy_factors.ensures c.zeros-ws.ensures.size c.«open».ensures done in
     record {
       sound = (
-        opens_sound c.args.plan.now c.args.h c.requires.0 c.classes-table.result.now c.copy_factors.new.factors c.box_room-ws.result
-            c.classes-table.ensures c.copy_factors.ensures c.box_room-ws.ensures.size c.«open».ensures done,
-        opens_new c.args.plan.now c.args.h c.requires.0 c.classes-table.result.now c.copy_factors.new.factors c.box_room-ws.result
-            c.classes-table.ensures c.copy_factors.ensures c.box_room-ws.ensures.size c.«open».ensures done,
+        opens_sound c.args.plan.now c.args.h c.requires.0 c.classes-table.result.now c.copy_factors.new.factors c.zeros-ws.result
+            c.classes-table.ensures c.copy_factors.ensures c.zeros-ws.ensures.size c.«open».ensures done,
+        opens_new c.args.plan.now c.args.h c.requires.0 c.classes-table.result.now c.copy_factors.new.factors c.zeros-ws.result
+            c.classes-table.ensures c.copy_factors.ensures c.zeros-ws.ensures.size c.«open».ensures done,
         c.requires.0,
       );
       room = subst (Room c.args.out.now 0) text c.requires.1;
@@ -42,21 +42,21 @@ pub returns-in-Ok : goal.returns-in-Ok
 returns-in-Ok c =
     let run = c.run_open in
     let text : run_text c.args.plan.now ≡ text_of (open_run (contents_of (words_of c.args.plan.now) c.args.h)) =
-    run_opened c.args.plan.now c.args.h c.requires.0 c.classes-table.result.now c.copy_factors.new.factors c.box_room-ws.result
-    c.classes-table.ensures c.copy_factors.ensures c.box_room-ws.ensures.size c.«open».ensures c.in-Ok.is in
+    run_opened c.args.plan.now c.args.h c.requires.0 c.classes-table.result.now c.copy_factors.new.factors c.zeros-ws.result
+    c.classes-table.ensures c.copy_factors.ensures c.zeros-ws.ensures.size c.«open».ensures c.in-Ok.is in
     subst (λ l. Put c.args.out.now run.new.out 0 l run.result) (sym text) run.ensures
 
 pub put-requires : goal.put-requires
 put-requires c =
     let text : run_text c.args.plan.now ≡ line_text (Line.Refused c.from.result) =
-    refused_by_opening c.args.plan.now c.args.h c.requires.0 c.classes-table.result.now c.copy_factors.new.factors c.box_room-ws.result
-    c.classes-table.ensures c.copy_factors.ensures c.box_room-ws.ensures.size c.«open».ensures _ c.in-Err.is ∙ ap (λ n. line_text (Line.Refused n)) (sym c.from.ensures) in
+    refused_by_opening c.args.plan.now c.args.h c.requires.0 c.classes-table.result.now c.copy_factors.new.factors c.zeros-ws.result
+    c.classes-table.ensures c.copy_factors.ensures c.zeros-ws.ensures.size c.«open».ensures _ c.in-Err.is ∙ ap (λ n. line_text (Line.Refused n)) (sym c.from.ensures) in
     subst (Room c.args.out.now 0) text c.requires.1
 
 pub returns-in-Err : goal.returns-in-Err
 returns-in-Err c =
     let line = c.put in
     let text : run_text c.args.plan.now ≡ line_text (Line.Refused c.from.result) =
-    refused_by_opening c.args.plan.now c.args.h c.requires.0 c.classes-table.result.now c.copy_factors.new.factors c.box_room-ws.result
-    c.classes-table.ensures c.copy_factors.ensures c.box_room-ws.ensures.size c.«open».ensures _ c.in-Err.is ∙ ap (λ n. line_text (Line.Refused n)) (sym c.from.ensures) in
+    refused_by_opening c.args.plan.now c.args.h c.requires.0 c.classes-table.result.now c.copy_factors.new.factors c.zeros-ws.result
+    c.classes-table.ensures c.copy_factors.ensures c.zeros-ws.ensures.size c.«open».ensures _ c.in-Err.is ∙ ap (λ n. line_text (Line.Refused n)) (sym c.from.ensures) in
     subst (λ l. Put c.args.out.now line.new.out 0 l line.result) (sym text) line.ensures
