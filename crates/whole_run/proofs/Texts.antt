@@ -41,10 +41,10 @@ text_room bytes out h = let f = run_fits bytes in omega (arith, f, h)
 
 -- Into a buffer that has room for any text no more bytes are written than it has.
 pub written_within :
-    (bytes : List ℕ) (room size : ℕ) → text_most ≤ room → Printed.Written size ≡ printing_answer bytes room → size ≤ room
+    (bytes : List ℕ) (room size : ℕ) → text_most ≤ room → Ok size ≡ printing_answer bytes room → size ≤ room
 unfolding printing_answer
 written_within bytes room size h e =
-    let whole : Printed.Written size ≡ Printed.Written (length (run_text bytes)) = e ∙ rw (le-ltb room text_most h) refl in
+    let whole : ◌≡◌ {A = Result ℕ Refusal} (Ok size) (Ok (length (run_text bytes))) = e ∙ rw (le-ltb room text_most h) refl in
     let same : size ≡ length (run_text bytes) = cc in
     let f = run_fits bytes in
     omega arith

@@ -19,9 +19,8 @@ pub fn admit_all(ws: &mut [u32], table: &[u8], numbers: &mut [u32], out: &mut [u
     ensures { Admits (admissions_of table.now (contents ws.old)) (length table.now / 16)
         ws.new numbers.new out.old out.new result }
 {
-    let count = table.len() / 16;
     let mut at: usize = 0;
-    for i in 0..count {
+    for i in 0..table.len() / 16 {
         let c = connection(table, i);
         let [answer, number, t] = tell_admitted(admit_sound(ws, c));
         let place = (i + 1) as u32;

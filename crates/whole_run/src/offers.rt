@@ -28,7 +28,7 @@ pub fn offer_all(
         out.old out.new start result }
 {
     let mut at = start;
-    for i in 0..count {
+    for i in 0..due.len() / 12 {
         let a = arrival(due, i);
         let [answer, serial] = tell_offered(offer_sound(ws, number_of(numbers, a.place), a.units));
         let place = (from + i + 1) as u32;

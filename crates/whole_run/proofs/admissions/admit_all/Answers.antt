@@ -32,7 +32,9 @@ put-at-requires c =
 pub loop-i-preserved : goal.loop-i-preserved
 loop-i-preserved c =
     let loop = c.loop-i in
+    let i = loop.invariant in
     let below = c.loop-i-test.true in
+    let read = c.connection-c in
     let admission = c.admit_sound in
     let answer : c.tell_admitted.result ≡ told (admitted (admission_answer (contents c.loop-i.ws) c.connection-c.result)) =
     c.tell_admitted.ensures ∙ ap (λ (a : Result ℕ Refusal). told (admitted a)) c.admit_sound.ensures.0 in

@@ -36,6 +36,10 @@ put-at-requires c =
 pub loop-i-preserved : goal.loop-i-preserved
 loop-i-preserved c =
     let loop = c.loop-i in
+    let i = loop.invariant in
+    let below = c.loop-i-test.true in
+    let read = c.arrival-a in
+    let number = c.number_of in
     let offer = c.offer_sound in
     let answer : c.tell_offered.result ≡
     told (offered (offer_answer (contents c.loop-i.ws) (number_of c.args.numbers.now c.arrival-a.result.place) c.arrival-a.result.units)) =
@@ -43,7 +47,7 @@ loop-i-preserved c =
     (c.offer_sound.ensures.0 ∙ ap (λ (n : ℕ). offer_answer (contents c.loop-i.ws) n c.arrival-a.result.units) c.number_of.ensures) in
     let line = c.put-at in
     let box = contents loop.ws in
-    let units = c.arrival-a.result.units in
+    let units = read.result.units in
     let left =
     subst (λ (n : ℕ). Leaves loop.ws offer.new.ws (after_offer box n units (offer_answer box n units)))
     number.ensures offer.ensures.1 in
