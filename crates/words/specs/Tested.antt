@@ -3,7 +3,6 @@ use Rattle.std.specs.Prelude.{ℕ, ◌+◌, ◌-◌, ◌*◌, ◌≤◌, ◌<◌
 use Rattle.laws.specs.Tests.{every, every_below}
 use Rattle.meaning.specs.Numbers.{largest_factor, settings_allowed, connection_allowed, most_connections, most_waiting, last_slot}
 use Rattle.meaning.specs.Envelope.{allowance_kept}
-use Rattle.meaning.specs.declared.Allowance.{Allowance}
 use Rattle.meaning.specs.declared.Packet.{Packet}
 use Rattle.meaning.specs.declared.Standing.{Standing}
 use Rattle.meaning.specs.Box.{Box, packet_kept, rank_in}
