@@ -12,13 +12,14 @@ use Rattle.words.specs.Places.{word, lengths_below, start_of, place_of, lengths_
 use Rattle.words.specs.Contents.{contents, settings_at, packet_at, turns_at, queue_at, queues_at}
 use Rattle.words.specs.Sound.{Fitting}
 use Rattle.words.specs.Changes.{Become, PacketPut}
-use Rattle.store.specs.StoreChanges.{with_queues, MovedUp, MovedDown}
+use Rattle.store.specs.StoreChanges.{with_queues}
+use Rattle.store.proofs.Moving.{MovedUp, MovedDown}
 use Rattle.words.proofs.Rotation.{place_below}
 use Rattle.words.proofs.TableReads.{lengths_most}
 use Rattle.words.proofs.Storing.{word_other, word_same}
 use Rattle.words.proofs.Same.{packet_same, queue_tagged_at}
 use Rattle.store.proofs.QueueLaws.{join_sets}
-use Rattle.store.proofs.Shift.{Shifted, lengths_next, start_is, start_same, total_moved, shifted_become}
+use Rattle.store.proofs.Shift.{Shifted, lengths_next, start_is, start_same, total_moved, shifted_become, upto_place}
 
 -- There are rP + 1 queues.
 queue_count : (ws : List ℕ) → length (contents ws).queues ≡ suc (largest_factor (settings_at ws))
@@ -116,11 +117,8 @@ module _ (ws up placed : List ℕ) (tag : ℕ) (p : Packet) (k : Fitting ws) (ta
       ap (set (contents ws).queues tag) (sym joined_queue) in
       rw q (shifted_become ws after tag 0 1 k tagged s (omega arith) (λ i h.
       word_other placed (lengths_at + P) v i (λ e. omega arith) ∙
-      w.above i (omega (arith, lengths_most ws P 64 small, lengths_next ws P, ap (lengths_below ws) (one_more P))) ∙
+      w.above i (omega (arith, upto_place ws P small)) ∙
       u.above i (omega arith))))
-    where
-      one_more : (n : ℕ) → n + 1 ≡ suc n
-      one_more n = omega arith
 
 -- the head of a queue goes
 module _ (ws down : List ℕ) (tag : ℕ) (k : Fitting ws) (tagged : tag ≤ largest_factor (settings_at ws))

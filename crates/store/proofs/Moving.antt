@@ -1,8 +1,21 @@
 -- Words that move four places within the words.
-use Rattle.std.proofs.Common.{◌≡◌, ℕ, ◌+◌, ◌-◌, ◌≤◌, ◌∙◌, ap, List, length, arith}
+use Rattle.std.proofs.Common.{◌≡◌, ℕ, ◌+◌, ◌-◌, ◌<◌, ◌≤◌, ◌∙◌, ap, List, length, arith}
 use Rattle.std.specs.List.{CopiedTo, SameBelow, SameFrom}
 use Rattle.words.specs.Places.{word}
-use Rattle.store.specs.StoreChanges.{MovedUp, MovedDown}
+
+-- Words from `from` on have moved four places up, as far as `to`; what lies between stays open.
+pub record MovedUp (ws after : List ℕ) (from to : ℕ) : Type 0 where
+  pub same_length : length after ≡ length ws
+  pub below : (i : ℕ) → i < from → word after i ≡ word ws i
+  pub moved : (i : ℕ) → from ≤ i → i < to → word after (i + 4) ≡ word ws i
+  pub above : (i : ℕ) → to + 4 ≤ i → word after i ≡ word ws i
+
+-- Words before `to` have moved four places down, as far as `from`.
+pub record MovedDown (ws after : List ℕ) (from to : ℕ) : Type 0 where
+  pub same_length : length after ≡ length ws
+  pub below : (i : ℕ) → i < from → word after i ≡ word ws i
+  pub moved : (i : ℕ) → from ≤ i → i + 4 < to → word after i ≡ word ws (i + 4)
+  pub above : (i : ℕ) → from ≤ i → to ≤ i + 4 → word after i ≡ word ws i
 
 -- Words copied four places up have moved up.
 pub moved_up : (ws after : List ℕ) (from to : ℕ) → from ≤ to → length after ≡ length ws

@@ -1,5 +1,5 @@
--- What joining and taking do to sound words, said of their contents, and how packets move within the words.
-use Rattle.std.specs.Prelude.{ℕ, suc, ◌+◌, ◌≤◌, ◌<◌, ◌≡◌, true, List, [], ◌∷◌, length, get_or, set, drop, Option, MatchOption}
+-- What joining and taking do to sound words, said of their contents.
+use Rattle.std.specs.Prelude.{ℕ, suc, ◌+◌, ◌≤◌, ◌<◌, ◌≡◌, true, List, [], ◌∷◌, get_or, set, drop, Option, MatchOption}
 use Rattle.meaning.specs.Numbers.{largest_factor}
 use Rattle.meaning.specs.Queues.{join_tail}
 use Rattle.meaning.specs.declared.Packet.{Packet}
@@ -31,20 +31,6 @@ unfoldable pub lowest_tag : {A : Type 0} → List (List A) → ℕ
 lowest_tag [] = 0
 lowest_tag ([] ∷ qs) = suc (lowest_tag qs)
 lowest_tag ((p ∷ q) ∷ qs) = 0
-
--- Words from `from` on have moved four places up, as far as `to`; what lies between stays open.
-pub record MovedUp (ws after : List ℕ) (from to : ℕ) : Type 0 where
-  pub same_length : length after ≡ length ws
-  pub below : (i : ℕ) → i < from → word after i ≡ word ws i
-  pub moved : (i : ℕ) → from ≤ i → i < to → word after (i + 4) ≡ word ws i
-  pub above : (i : ℕ) → to + 4 ≤ i → word after i ≡ word ws i
-
--- Words before `to` have moved four places down, as far as `from`.
-pub record MovedDown (ws after : List ℕ) (from to : ℕ) : Type 0 where
-  pub same_length : length after ≡ length ws
-  pub below : (i : ℕ) → i < from → word after i ≡ word ws i
-  pub moved : (i : ℕ) → from ≤ i → i + 4 < to → word after i ≡ word ws (i + 4)
-  pub above : (i : ℕ) → from ≤ i → to ≤ i + 4 → word after i ≡ word ws i
 
 -- The box with this packet at the tail of the queue with this tag.
 abbrev pub joined_at : ℕ → Packet → Box → Box

@@ -5,6 +5,7 @@ use mathlib.Core.List.{List, [], ◌∷◌, ◌++◌, map, flatten, append_assoc
 use native.Mathlib.Omega.{arith}
 use lib.ListN.{length, get_or, drop, set, replicate, length-append, length-replicate, replicate-append-replicate}
 use lib.Seq.{drop-append-le}
+use Rattle.std.proofs.lemmas.List.{drop-replicate}
 use borrow.Rule.Slice.PartMut.{put_mid}
 use Rattle.laws.specs.Series.{series, series_same, append_same}
 use Rattle.meaning.specs.Numbers.{Settings, largest_factor}
@@ -15,12 +16,6 @@ use Rattle.words.specs.Places.{tag_of, interval_at, cycle_at, classes_at, factor
 use Rattle.words.specs.Contents.{padded, packet_words, link_words, turns_of, by_place, laid, tables, image, put}
 use Rattle.words.proofs.Laid.{total, Empty, laid_zeros}
 use Rattle.tables.specs.Opening.{asked}
-
--- Zeros without the first k of them are zeros.
-drop_zeros : (k n : ℕ) → k ≤ n → drop k (replicate {A = ℕ} n 0) ≡ replicate (n - k) 0
-drop_zeros zero n h = let e : n ≡ n - 0 = omega arith in ap (λ m. replicate m 0) e
-drop_zeros (suc k) zero h = absurd (omega arith)
-drop_zeros (suc k) (suc n) h = let e : n - k ≡ suc n - suc k = omega arith in drop_zeros k n (omega arith) ∙ ap (λ m. replicate m 0) e
 
 -- Among empty queues every queue is empty, at any place.
 get_d_empty : (n k : ℕ) → get_or (replicate {A = List Packet} n []) k [] ≡ []
@@ -112,7 +107,7 @@ opening_writes D M fs ws cleared h e =
     let n : factors_at + k - factors_at ≡ k = omega arith in
     let d : drop k (z ++ R) ≡ replicate (packets_at - factors_at - k) 0 ++ R =
     drop-append-le k z R (rw (length-replicate {A = ℕ} (packets_at - factors_at) 0) (omega arith)) ∙
-    ap (λ t. t ++ R) (drop_zeros k (packets_at - factors_at) (omega arith)) in
+    ap (λ t. t ++ R) (drop-replicate k (packets_at - factors_at) 0) in
     let i = image_new D M fs h in
     let size : length (image (new_box (asked D M fs))) ≡ packets_at =
     rw (i, length-append fs (replicate (packets_at - factors_at - k) 0), length-replicate {A = ℕ} (packets_at - factors_at - k) 0)

@@ -1,4 +1,6 @@
 // The slot counter and the count of accepted packets.
+#![tactic(auto, unfolding(words::specs::Contents::contents))]
+
 ghost use Rattle.std.specs.Prelude.{◌≡◌, ◌<◌, length};
 ghost use Rattle.meaning.specs.Box.{waiting};
 ghost use Rattle.words.specs.Places.{word, accepted_at};

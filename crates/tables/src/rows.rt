@@ -1,4 +1,6 @@
 // The connections' rows.
+#![tactic(auto, unfolding(words::specs::Contents::standing_at))]
+
 ghost use Rattle.std.specs.Prelude.{◌≡◌, ◌+◌, ◌≤◌, ◌<◌, length};
 ghost use Rattle.meaning.specs.Box.{connection};
 ghost use Rattle.words.specs.Places.{word, packets_at, row_count_at};

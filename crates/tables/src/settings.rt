@@ -1,4 +1,6 @@
 // The settings of a box: the first rows of document 01's table, and what they say of the queues.
+#![tactic(auto, unfolding(words::specs::Contents::contents, words::specs::Contents::settings_at))]
+
 ghost use Rattle.std.specs.Prelude.{◌≡◌, ◌≤◌, ◌^◌, ◌<◌, length};
 ghost use Rattle.meaning.specs.Numbers.{largest_factor, rising_above, settings_allowed, connection_allowed, class_count, factor};
 ghost use Rattle.words.specs.Places.{word, packets_at, interval_at, classes_at};
@@ -27,12 +29,15 @@ fn factors_rise(factors: &[u32]) -> bool
 pub fn settings_allowed(d: u32, m: u32, factors: &[u32]) -> bool
     ensures { result ≡ settings_allowed (asked d m factors.now) }
 {
+    let [.., last] = factors else {
+        return false;
+    };
     (1..=256).contains(&d)
         && (1..=4096).contains(&m)
         && (1..=8).contains(&factors.len())
         && factors_rise(factors)
-        && factors[factors.len() - 1] <= 63
-        && factors[factors.len() - 1] * d <= 1024
+        && *last <= 63
+        && *last * d <= 1024
 }
 
 // The class, s, b and T of a connection are in range, and T divides M: refusal 3 is given exactly when this is false.

@@ -1,4 +1,6 @@
 // A packet as four words.
+#![tactic(auto, unfolding(crate::specs::Contents::packet_at))]
+
 ghost use Rattle.std.specs.Prelude.{◌≡◌, ◌+◌, ◌≤◌, length};
 ghost use Rattle.words.specs.Contents.{packet_at};
 ghost use Rattle.words.specs.Changes.{PacketPut};

@@ -22,13 +22,6 @@ copy_within-requires-clause-dest_in_bounds c =
     let w = ap (λ m. word ws (lengths_at + m)) c.place_of-place.ensures.0 in
     omega (arith, c.requires.0.enough, c.requires.0.total, lengths_most ws c.place_of-place.result 64 c.place_of-place.ensures.1, c.requires.2)
 
-pub overflow_sub-ws : goal.overflow_sub-ws
-overflow_sub-ws c =
-    let P = c.place_of-place in
-    let small = P.ensures.1 in
-    let w = ap (λ m. word c.args.ws.now (lengths_at + m)) P.ensures.0 in
-    omega (arith, c.requires.2, c.copy_within.ensures.by_index.1 (lengths_at + P.result) 0 (omega arith))
-
 pub returns : goal.returns
 unfolding contents
 returns c =

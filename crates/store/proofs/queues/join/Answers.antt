@@ -1,4 +1,4 @@
-use Rattle.std.proofs.Common.{◌≤◌, ◌+◌, ◌*◌, ◌∙◌, ap, refl, arith, length-set}
+use Rattle.std.proofs.Common.{◌≤◌, ◌+◌, ◌*◌, ◌∙◌, ap, refl, arith}
 use Rattle.words.proofs.TableReads.{lengths_most}
 use Rattle.words.specs.Places.{word, place_of, lengths_below, lengths_at, packets_at}
 use Rattle.words.specs.Contents.{contents, turns_at}
@@ -34,9 +34,6 @@ overflow_add-ws-2 c =
     let small = c.place_of-place.ensures.1 in
     let same = c.write_packet.ensures.below (lengths_at + P) (omega arith) ∙ c.copy_within.ensures.by_index.1 (lengths_at + P) 0 (omega arith) in
     record { fits = omega (arith, c.requires.2, lengths_most c.args.ws.now P 64 small) }
-
-pub shape_of-ws : goal.shape_of-ws
-shape_of-ws c = simp length-set (c.write_packet.auto.ws ∙ c.copy_within.ensures.len)
 
 pub returns : goal.returns
 unfolding contents

@@ -13,9 +13,6 @@ returns-then-ws-ne0 c = busy_become c.args.ws.now (sound_fitting c.args.ws.now c
 pub lowest_tag-requires : goal.lowest_tag-requires
 lowest_tag-requires c = sound_fitting c.args.ws.now c.requires
 
-pub load_from-requires : goal.load_from-requires
-load_from-requires c = (c.requires, c.in-Some.ensures.0, c.in-Some.ensures.1, c.if-ws-ne0.false)
-
 pub returns-in_default : goal.returns-in_default
 unfolding contents
 returns-in_default c = idle_become c.args.ws.now (sound_fitting c.args.ws.now c.requires) c.if-ws-ne0.false c.in_default.ensures

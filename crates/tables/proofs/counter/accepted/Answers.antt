@@ -1,7 +1,0 @@
-use mathlib.Core.Path.{refl}
-use Rattle.words.specs.Contents.{contents}
-use Rattle.tables.proofs.counter.accepted.Goals as goal
-
-pub returns : goal.returns
-unfolding contents
-returns c = refl

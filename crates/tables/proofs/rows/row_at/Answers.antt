@@ -1,6 +1,0 @@
-use Rattle.words.specs.Contents.{standing_at}
-use Rattle.tables.proofs.rows.row_at.Goals as goal
-
-pub returns : goal.returns
-unfolding standing_at
-returns c = cc
