@@ -1,6 +1,6 @@
-// The number of an answer and its other result fields, one after another, computed here for lines, for C and for tests.
-// Every proof here opens the definition that it is about.
-#![tactic(auto, unfolding(meaning::specs::Answers::told, meaning::specs::Answers::success, meaning::specs::Answers::refusal, meaning::specs::Answers::failing_t, meaning::specs::Answers::header_fields, meaning::specs::Answers::opened, meaning::specs::Answers::admitted, meaning::specs::Answers::offered, meaning::specs::Answers::stepped, meaning::specs::Answers::plan_read, meaning::specs::Answers::plan_written, meaning::specs::Answers::printed))]
+// The number of an answer and its other result fields, one after another, computed here for lines, for C and for tests: a function for each
+// call, since document 01 gives each its own fields.
+#![tactic(auto)]
 
 ghost use Rattle.std.specs.Prelude.{◌≡◌, drop};
 ghost use Rattle.meaning.specs.Answers.{told, failing_t, opened, admitted, offered, stepped, plan_read, plan_written, printed};
@@ -9,6 +9,7 @@ ghost use Rattle.answers.specs.Fitting.{FitWords};
 use meaning::{Header, Refusal, Stepped};
 
 // What a refusal gives beside its number: 0, "but 6, which gives t".
+#[tactic(auto, unfolding(meaning::specs::Answers::failing_t))]
 fn failing_t(why: Refusal) -> u32
     ensures { result ≡ failing_t why }
 {
@@ -19,6 +20,7 @@ fn failing_t(why: Refusal) -> u32
 }
 
 // Opening has no other field.
+#[tactic(auto, unfolding(meaning::specs::Answers::told, meaning::specs::Answers::refusal, meaning::specs::Answers::opened))]
 pub fn tell_opened(answer: Result<(), Refusal>) -> [u32; 1]
     ensures { result ≡ told (opened answer) }
 {
@@ -29,6 +31,7 @@ pub fn tell_opened(answer: Result<(), Refusal>) -> [u32; 1]
 }
 
 // Admission: the connection's number, and t.
+#[tactic(auto, unfolding(meaning::specs::Answers::told, meaning::specs::Answers::admitted))]
 pub fn tell_admitted(answer: Result<u32, Refusal>) -> [u32; 3]
     ensures { result ≡ told (admitted answer) }
 {
@@ -39,6 +42,7 @@ pub fn tell_admitted(answer: Result<u32, Refusal>) -> [u32; 3]
 }
 
 // An offer: the packet's serial.
+#[tactic(auto, unfolding(meaning::specs::Answers::told, meaning::specs::Answers::refusal, meaning::specs::Answers::offered))]
 pub fn tell_offered(answer: Result<u32, Refusal>) -> [u32; 2]
     ensures { result ≡ told (offered answer) }
 {
@@ -49,6 +53,7 @@ pub fn tell_offered(answer: Result<u32, Refusal>) -> [u32; 2]
 }
 
 // A step: the serial, the units left, the connection, the arrival and the departure.
+#[tactic(auto, unfolding(meaning::specs::Answers::told, meaning::specs::Answers::refusal, meaning::specs::Answers::stepped))]
 pub fn tell_stepped(answer: Result<Stepped, Refusal>) -> [u32; 6]
     ensures { result ≡ told (stepped answer) }
 {
@@ -68,6 +73,7 @@ pub fn tell_stepped(answer: Result<Stepped, Refusal>) -> [u32; 6]
 }
 
 // Reading a plan: D, M, and the count and the offset of each table, which are small enough for a word.
+#[tactic(auto, unfolding(meaning::specs::Answers::told, meaning::specs::Answers::refusal, meaning::specs::Answers::plan_read, meaning::specs::Answers::header_fields))]
 pub fn tell_read(answer: Result<Header, Refusal>) -> [u32; 9]
     requires { FitWords (drop 2 (plan_read answer).fields) }
     ensures { result ≡ told (plan_read answer) }
@@ -94,6 +100,7 @@ pub fn tell_read(answer: Result<Header, Refusal>) -> [u32; 9]
 }
 
 // Writing a plan, and printing the run of one: the number of bytes written.
+#[tactic(auto, unfolding(meaning::specs::Answers::offered, meaning::specs::Answers::plan_written, meaning::specs::Answers::printed))]
 pub fn tell_written(answer: Result<usize, Refusal>) -> [u32; 2]
     requires { FitWords (plan_written answer).fields }
     ensures plan { result ≡ told (plan_written answer) }

@@ -86,7 +86,7 @@ pub extern "C" fn zeppilorn_slot_arrivals(
         *fields = [0, 0];
         return 0;
     }
-    let first = first_from(arrivals, from, slot as u64);
+    let first = first_from(arrivals, from, u64::from(slot));
     *fields = [12 * first, size];
     0
 }

@@ -1,4 +1,5 @@
-// One line of output into a lent buffer: a fixed word and its numbers. Document 01, "The program and one whole run".
+// One line of output into a lent buffer: a fixed word and its numbers. Document 01, "The program and one whole run". The buffer and the place
+// stay two arguments: a struct that holds a `&mut` has to ensure of each call that it still holds the same one.
 #![tactic(auto)]
 
 ghost use Rattle.std.specs.Prelude.{◌≡◌, ◌<◌, ◌+◌};

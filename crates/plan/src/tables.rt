@@ -78,7 +78,8 @@ pub fn arrival(arrivals: &[u8], i: usize) -> Arrival
     }
 }
 
-// The first entry, from the one numbered `from` on, whose slot is `limit` or more; where there is none, the number of entries.
+// The first entry, from the one numbered `from` on, whose slot is `limit` or more; where there is none, the number of entries, as the
+// definition `boundary` has it: a stretch ends there.
 pub fn first_from(arrivals: &[u8], from: usize, limit: u64) -> usize
     ensures { result ≡ boundary (arrivals_in arrivals.now) from limit }
 {

@@ -94,7 +94,7 @@ fn load_from(ws: &mut [u32], tag: usize)
     );
 }
 
-// If the link is free, the head of the lowest-tagged queue that has a packet goes onto it.
+// If the link is free, which its units left tell without a read of its packet, the head of the lowest-tagged queue that has a packet goes onto it.
 pub fn load_link(ws: &mut [u32])
     requires { sound_words ws.old ≡ true }
     ensures { Makes loaded_box ws.old ws.new }

@@ -1,4 +1,5 @@
-// The slot counter and the count of accepted packets.
+// The slot counter and the count of accepted packets. Each reader has the name of what it reads, here and in the other files: one function
+// over the place would promise a word, and not what it stands for.
 #![tactic(auto, unfolding(words::specs::Contents::contents))]
 
 ghost use Rattle.std.specs.Prelude.{◌≡◌, ◌<◌, length};

@@ -1,4 +1,5 @@
-// Connections by their place in the file, and by the number that they were given.
+// Connections by their place in the file, and by the number that they were given. 0 and no `None` where there is none: so the definitions
+// `number_of` and `place_of` have it, and an offer takes any number.
 ghost use Rattle.std.specs.Prelude.{◌≤◌, ◌≡◌, length};
 ghost use Rattle.meaning.specs.Run.{number_of, place_of};
 

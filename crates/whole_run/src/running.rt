@@ -36,6 +36,7 @@ fn run_open(ws: &mut [u32], plan: &[u8], h: Header, out: &mut [u8]) -> usize
     requires room { Room out.old 0 (text_of (open_run (contents_of (words_of plan.now) h))) }
     ensures { Put out.old out.new 0 (text_of (open_run (contents_of (words_of plan.now) h))) result }
 {
+    // arrays and no `Vec`: the program has no heap
     let mut numbers = [0u32; 32];
     let asked = connections(plan, h);
     let at = admit_all(ws, asked, &mut numbers, out);
