@@ -1,5 +1,5 @@
 -- The lengths of the queues, as the sum of a stretch of words.
-use Rattle.std.proofs.Common.{◌≡◌, ◌≤◌, ◌+◌, ◌*◌, ℕ, zero, suc, List, length, take, drop, get_or, sum, Fits, w32, refl, arith, add-one, length-drop, get_or-drop}
+use Rattle.std.proofs.Common.{◌≡◌, ◌<◌, ◌≤◌, ◌+◌, ◌*◌, ℕ, zero, suc, List, length, take, drop, get_or, sum, Fits, w32, refl, arith, add-one, length-drop, get_or-drop}
 use Rattle.std.proofs.lemmas.List.Sums.{sum_by_more}
 use Rattle.words.specs.Places.{lengths_below, lengths_at}
 
@@ -8,7 +8,8 @@ pub lengths_sum : (ws : List ℕ) (p : ℕ) → lengths_at + p ≤ length ws →
 unfolding lengths_below
 lengths_sum ws zero h = refl
 lengths_sum ws (suc p) h =
-    rw (← (add-one p), sum_by_more (λ x. x) (drop lengths_at ws) p 0 (rw (length-drop lengths_at ws) (omega arith)), lengths_sum ws p (omega arith), get_or-drop lengths_at ws p 0)
+    let within : p < length (drop lengths_at ws) = rw (length-drop lengths_at ws) (omega arith) in
+    rw (← (add-one p), sum_by_more (λ x. x) (drop lengths_at ws) p 0 within, lengths_sum ws p (omega arith), get_or-drop lengths_at ws p 0)
 
 -- Each length is a word, so that those below p sum to at most p times 2^32.
 pub lengths_bound : (ws : List ℕ) (p : ℕ) → ((i : ℕ) → Fits w32 (get_or ws i 0)) → lengths_below ws p ≤ p * 4294967296
