@@ -1,15 +1,18 @@
 -- Sums and largest values over the rows, one row more at a time.
-use Prim.Native.Nat.{ℕ, zero, suc, ◌+◌, ◌*◌, ◌/◌, ◌≤◌, max}
+use Prim.Native.Nat.{ℕ, zero, suc, ◌+◌, ◌-◌, ◌*◌, ◌/◌, ◌≤◌, ◌<◌, max}
 use mathlib.Core.Path.{◌≡◌, refl, ap, ◌∙◌}
+use mathlib.Core.Bool.{Bool, false, not, ◌&&◌, ◌||◌}
 use mathlib.Core.List.{List, [], ◌∷◌, ◌++◌, map, map-append}
 use native.Mathlib.Nat.{mul-le-mul, div-le_self}
 use native.Mathlib.Numerals.{add-one}
 use native.Mathlib.Omega.{arith}
 use lib.ListN.{length}
+use lib.Dec.{leb}
+use Rattle.std.proofs.lemmas.Bool.{lt-leb}
 use Rattle.laws.specs.Series.{series, series_last}
 use Rattle.laws.specs.Sums.{sum_of, largest_of, sum_append}
 use Rattle.meaning.specs.declared.Connection.{Connection}
-use Rattle.meaning.specs.Admission.{term, sum_at, in_the_way, rate}
+use Rattle.meaning.specs.Admission.{term, sum_at, in_the_way, rate, twelve_range, eleven, twelve, condition_at}
 use Rattle.meaning.specs.declared.Standing.{Standing}
 use Rattle.meaning.proofs.Facts.{settings_facts, connection_facts}
 use Rattle.words.specs.Places.{rows_at}
@@ -114,17 +117,41 @@ rate_most ws c slots r a e =
 pub ruleset rates = (asked_small, rows_most, rate_most, rate_is, sum_none, sum_next)
 
 -- What the newcomer and all rows add at t is the sum of (11) over the set with the newcomer.
-pub sum_is : (ws : List ℕ) (c : Connection) (t n : ℕ) → n ≡ length (contents ws).standing
+sum_is : (ws : List ℕ) (c : Connection) (t n : ℕ) → n ≡ length (contents ws).standing
     → term (settings_at ws) t c + sum_of (term (settings_at ws) t) (rows_to ws n) ≡ sum_at (settings_at ws) (with_asked ws c) t
 unfolding sum_at
 sum_is ws c t n e = let w = sum_with (term (settings_at ws) t) ws c in rw e (omega arith)
 
--- What the loop of the sum goes by.
-pub ruleset sums = (rows_most, sum_is, sum_none, sum_next)
-
 -- The largest that the newcomer and the rows count for is the packet in the way of the set with the newcomer.
-pub way_is : (ws : List ℕ) (c : Connection) (t n : ℕ) → n ≡ length (contents ws).standing
+way_is : (ws : List ℕ) (c : Connection) (t n : ℕ) → n ≡ length (contents ws).standing
     → max (way_term (settings_at ws) t c) (largest_of (way_term (settings_at ws) t) (rows_to ws n))
     ≡ in_the_way (settings_at ws) (with_asked ws c) t
 unfolding in_the_way
 way_is ws c t n e = let w = largest_with (way_term (settings_at ws) t) ws c in rw e (omega arith)
+
+-- Where the sum of the newcomer and of some rows exceeds t, (11) fails at t: no term takes from a sum.
+pub fails_early : (ws : List ℕ) (c : Connection) (t sum i n : ℕ) → sum ≡ term (settings_at ws) t c + sum_of (term (settings_at ws) t) (rows_to ws i)
+    → i ≤ n → n ≡ length (contents ws).standing → t < sum → condition_at (settings_at ws) (with_asked ws c) t ≡ false
+unfolding condition_at eleven
+fails_early ws c t sum i n e h en l =
+    let k = sum_partial (term (settings_at ws) t) ws i (n - i) in
+    let z : n - i + i ≡ n = omega arith in
+    let p = rw z at k in
+    let a = sum_is ws c t n en in
+    let f = lt-leb (sum_at (settings_at ws) (with_asked ws c) t) t (omega arith) in
+    rw f refl
+
+-- (11) and (12) at t, by the sum and the packet in the way over all rows.
+pub condition_is : (ws : List ℕ) (c : Connection) (t sum way n : ℕ) (speaks : Bool)
+    → sum ≡ term (settings_at ws) t c + sum_of (term (settings_at ws) t) (rows_to ws n)
+    → way ≡ max (way_term (settings_at ws) t c) (largest_of (way_term (settings_at ws) t) (rows_to ws n))
+    → speaks ≡ twelve_range (settings_at ws) t → n ≡ length (contents ws).standing
+    → condition_at (settings_at ws) (with_asked ws c) t ≡ (leb sum t && (not speaks || leb (sum + way) t))
+unfolding condition_at eleven twelve
+condition_is ws c t sum way n speaks es ew er en =
+    let a : sum ≡ sum_at (settings_at ws) (with_asked ws c) t = es ∙ sum_is ws c t n en in
+    let b : way ≡ in_the_way (settings_at ws) (with_asked ws c) t = ew ∙ way_is ws c t n en in
+    rw (a, b, er) refl
+
+-- What the two loops of the search go by.
+pub ruleset searches = (rows_most, sum_none, sum_next, largest_none, largest_next)

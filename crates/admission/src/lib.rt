@@ -109,44 +109,6 @@ impl Asking<'_> {
         0
     }
 
-    // The sum of (11) at t, with the newcomer.
-    #[tactic(auto, using(crate::proofs::Rows::sums))]
-    fn sum_at(&self, t: u32) -> u32
-        requires { t ≤ 5500 }
-        ensures value { result ≡ sum_at (settings_at self.now.ws.now) (with_asked self.now.ws.now self.now.newcomer) t }
-        ensures most { result ≤ 13200000 }
-    {
-        let mut sum = self.term_of(self.newcomer, t);
-        for i in 0..standing_count(self.ws) as usize {
-            sum += self.term_of(self.row(i), t);
-        }
-        sum
-    }
-
-    // "the largest s among connections whose bound exceeds t + D (0 if there are none)", with the newcomer.
-    #[tactic(auto, using(crate::proofs::Rows::largest_none, crate::proofs::Rows::way_is))]
-    fn in_the_way(&self, t: u32) -> u32
-        requires { t ≤ 5500 }
-        ensures value { result ≡ in_the_way (settings_at self.now.ws.now) (with_asked self.now.ws.now self.now.newcomer) t }
-        ensures most { result ≤ 64 }
-    {
-        let mut way = self.way_of(self.newcomer, t);
-        for i in 0..standing_count(self.ws) as usize {
-            way = way.max(self.way_of(self.row(i), t));
-        }
-        way
-    }
-
-    // (11) and (12) at t, with the newcomer.
-    #[tactic(auto, unfolding(meaning::specs::Admission::condition_at, meaning::specs::Admission::eleven, meaning::specs::Admission::twelve))]
-    fn holds_at(&self, t: u32) -> bool
-        requires { t ≤ 5500 }
-        ensures { result ≡ condition_at (settings_at self.now.ws.now) (with_asked self.now.ws.now self.now.newcomer) t }
-    {
-        let sum = self.sum_at(t);
-        sum <= t && (!self.speaks_of(t) || sum + self.in_the_way(t) <= t)
-    }
-
     // The sum of s x (M/T), with the newcomer.
     #[tactic(auto, using(crate::proofs::Rows::rates))]
     pub fn rate(&self) -> u32
@@ -171,18 +133,31 @@ impl Asking<'_> {
     }
 
     // The first t of 0 to dP + M - 1 at which (11) or (12) fails, with the newcomer.
-    #[tactic(auto, using(laws::specs::Found::found_holds), unfolding(meaning::specs::Admission::finite_search))]
+    #[tactic(auto, using(crate::proofs::Rows::searches))]
     pub fn first_failing(&self) -> Option<u32>
         ensures { search_of result ≡ finite_search (settings_at self.now.ws.now) (with_asked self.now.ws.now self.now.newcomer) }
     {
         let end = self.end();
+        let count = standing_count(self.ws) as usize;
         let mut t = 0;
-        // `(0..end).find(..)` would do: document 01 names this form, a loop left by a break that carries the first failing t.
-        loop {
+        // `(0..end).find(..)` would do: document 01 names this form, a loop over t and in it one over the connections, left by a label or a break that carries
+        // the first failing t.
+        'search: loop {
             if end <= t {
                 break None;
             }
-            if !self.holds_at(t) {
+            let speaks = self.speaks_of(t);
+            let mut sum = self.term_of(self.newcomer, t);
+            let mut way = self.way_of(self.newcomer, t);
+            for i in 0..count {
+                let row = self.row(i);
+                sum += self.term_of(row, t);
+                way = way.max(self.way_of(row, t));
+                if t < sum {
+                    break 'search Some(t);
+                }
+            }
+            if t < sum || speaks && t < sum + way {
                 break Some(t);
             }
             t += 1;
