@@ -6,6 +6,7 @@ ghost use Rattle.words.specs.Sound.{sound_words};
 ghost use Rattle.multiplexer.specs.Promised.{TagOf, Acceptable, Accepts};
 ghost use Rattle.multiplexer.specs.Promises.{OfferPromise, OfferSoundPromise};
 
+use crate::sound::Sound;
 use envelope::{charge, conforming};
 use meaning::{Packet, Refusal, Standing};
 use soundness::testing::is_sound;
@@ -50,25 +51,29 @@ fn accept(ws: &mut [u32], n: u32, units: u32, mut row: Standing) -> u32
     serial
 }
 
-// An offer on sound words.
-pub fn offer_sound(ws: &mut [u32], n: u32, units: u32) -> Result<u32, Refusal>
-    requires { sound_words ws.old ≡ true }
-    ensures { OfferSoundPromise ws.old n units result ws.new }
-{
-    if !is_within(1, n, standing_count(ws)) {
-        return Err(Refusal::NoConnection);
+impl Sound<'_> {
+    // An offer.
+    #[tactic(auto, using(words::proofs::Counts::sound_fitting))]
+    pub fn offer(&mut self, n: u32, units: u32) -> Result<u32, Refusal>
+        ensures same { self.new.words.ghost_name ≡ self.old.words.ghost_name }
+        ensures promise { OfferSoundPromise self.old.words.now n units result self.new.words.now }
+    {
+        let ws = &mut *self.words;
+        if !is_within(1, n, standing_count(ws)) {
+            return Err(Refusal::NoConnection);
+        }
+        let row = read_row(ws, n);
+        if !is_within(1, units, row.asked.longest) {
+            return Err(Refusal::WrongLength);
+        }
+        if !conforming(row, counter(ws)) {
+            return Err(Refusal::NotFitting);
+        }
+        if 1024 <= waiting_count(ws) {
+            return Err(Refusal::StoreFull);
+        }
+        Ok(accept(ws, n, units, row))
     }
-    let row = read_row(ws, n);
-    if !is_within(1, units, row.asked.longest) {
-        return Err(Refusal::WrongLength);
-    }
-    if !conforming(row, counter(ws)) {
-        return Err(Refusal::NotFitting);
-    }
-    if 1024 <= waiting_count(ws) {
-        return Err(Refusal::StoreFull);
-    }
-    Ok(accept(ws, n, units, row))
 }
 
 // Offering a packet: "Offer: 1, 7, 8, 9, 10".
@@ -78,5 +83,5 @@ pub fn offer(ws: &mut [u32], n: u32, units: u32) -> Result<u32, Refusal>
     if !is_sound(ws) {
         return Err(Refusal::NotSound);
     }
-    offer_sound(ws, n, units)
+    Sound { words: ws }.offer(n, units)
 }
