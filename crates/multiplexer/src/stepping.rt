@@ -54,14 +54,6 @@ fn move_on(ws: &mut [u32]) -> Stepped
 }
 
 impl Sound<'_> {
-    // The slot counter.
-    #[tactic(auto, using(words::proofs::Counts::sound_fitting, crate::proofs::Sounds::counter_most))]
-    fn counter(&self) -> u32
-        ensures { (result ≡ (contents self.now.words.now).counter) × (result ≤ last_slot) }
-    {
-        counter(self.words)
-    }
-
     // Whether the queues turn at the slot to which the counter is raised.
     #[tactic(auto, using(words::proofs::Counts::sound_fitting, crate::proofs::Steps::turn_is, crate::proofs::Steps::interval_positive))]
     fn turn_due(&self) -> bool
