@@ -1,9 +1,9 @@
 // Offering a packet. Document 01, "Envelope" and "Queues and steps".
-ghost use Rattle.std.specs.Prelude.{◌≡◌, true, ◌≤◌};
+ghost use Rattle.std.specs.Prelude.{◌≡◌, true, ◌≤◌, Ok};
 ghost use Rattle.words.specs.Places.{word, classes_at};
 ghost use Rattle.words.specs.Contents.{contents};
 ghost use Rattle.words.specs.Sound.{sound_words};
-ghost use Rattle.multiplexer.specs.Promised.{TagOf, Acceptable, Accepts};
+ghost use Rattle.multiplexer.specs.Promised.{TagOf, Acceptable};
 ghost use Rattle.multiplexer.specs.Promises.{OfferPromise, OfferSoundPromise};
 
 use crate::sound::Sound;
@@ -30,7 +30,7 @@ fn tag_of(ws: &[u32], class: u32) -> usize
 #[tactic(auto, using(crate::proofs::Offers::accepting))]
 fn accept(ws: &mut [u32], n: u32, units: u32, mut row: Standing) -> u32
     requires { Acceptable ws.old n units row }
-    ensures { Accepts ws.old n units result ws.new }
+    ensures { OfferSoundPromise ws.old n units (Ok result) ws.new }
 {
     let slot = counter(ws);
     let serial = accepted(ws) + 1;

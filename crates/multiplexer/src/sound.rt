@@ -1,4 +1,5 @@
-// Words that are known to be sound. The test reads every waiting packet, so who opened a box does not test it at each call: the type has what the test would find.
+// Words that are known to be sound. The test of soundness reads every packet that waits, so who opened a box himself makes the calls without it: what the test would
+// find goes with the words as their type, and no contract asks for it again.
 ghost use Rattle.std.specs.Prelude.{◌≡◌, ◌≤◌, true};
 ghost use Rattle.meaning.specs.Numbers.{last_slot};
 ghost use Rattle.words.specs.Contents.{contents};
@@ -6,7 +7,7 @@ ghost use Rattle.words.specs.Sound.{sound_words};
 
 use tables::counter::{accepted, counter};
 
-// Lent words that are sound whenever none of its methods runs.
+// Lent words that are sound, but while one of the methods writes them.
 #[derive(Drop)]
 pub struct Sound<'a> {
     pub words: &'a mut [u32],

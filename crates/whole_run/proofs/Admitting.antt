@@ -1,7 +1,6 @@
 -- The admissions of a file, one after another: what is left of `admit_all` at each place.
 use Prim.Native.Nat.{ℕ, suc, ◌+◌, ◌*◌, ◌/◌, ◌<◌}
 use mathlib.Core.Path.{◌≡◌, refl, sym, ap, ◌∙◌, subst}
-use mathlib.Core.Bool.{true}
 use mathlib.Core.List.{List, [], ◌∷◌, ◌++◌, append_assoc, append-nil}
 use native.Mathlib.Omega.{arith}
 use lib.ListN.{length, get_or, take, drop, set}
@@ -14,7 +13,6 @@ use Rattle.meaning.specs.Plan.{words_of, connection_at}
 use Rattle.meaning.specs.Run.{AfterAdmissions, line_of_admission, admit_all}
 use Rattle.meaning.specs.Lines.{line_text, text_of}
 use Rattle.words.specs.Contents.{contents}
-use Rattle.words.specs.Sound.{sound_words}
 use Rattle.plan.specs.Entries.{length_table, get_or_table}
 use Rattle.lines.specs.Put.{Room, Put}
 use Rattle.multiplexer.specs.Promised.{Leaves}

@@ -1,7 +1,6 @@
 -- The offers of a slot, one after another: what is left of `offer_all` at each of them.
 use Prim.Native.Nat.{ℕ, suc, ◌+◌, ◌*◌, ◌/◌, ◌<◌}
 use mathlib.Core.Path.{◌≡◌, refl, sym, ap, ◌∙◌, subst}
-use mathlib.Core.Bool.{true}
 use mathlib.Core.List.{List, [], ◌∷◌, ◌++◌}
 use native.Mathlib.Omega.{arith}
 use lib.ListN.{length, get_or, drop}
@@ -15,7 +14,6 @@ use Rattle.meaning.specs.Plan.{words_of, arrival_at}
 use Rattle.meaning.specs.Run.{AfterOffers, number_of, offer_all}
 use Rattle.meaning.specs.Lines.{line_text, text_of}
 use Rattle.words.specs.Contents.{contents}
-use Rattle.words.specs.Sound.{sound_words}
 use Rattle.plan.specs.Parts.{arrivals_in}
 use Rattle.plan.specs.Entries.{get_or_table}
 use Rattle.plan.specs.StretchPlaces.{length_arrivals_in}

@@ -1,8 +1,8 @@
-use Prim.Native.Nat.{◌+◌, ◌≤◌, ◌<◌, suc}
+use Prim.Native.Nat.{◌≤◌, ◌<◌}
 use mathlib.Core.Path.{◌≡◌, refl, sym, ap, ap₂, ◌∙◌}
 use native.Mathlib.Omega.{arith}
 use lib.ListN.{length}
-use Rattle.laws.specs.Search.{fails_at, holds}
+use Rattle.laws.specs.Search.{fails_at}
 use Rattle.meaning.specs.declared.Refusal.{Refusal}
 use Rattle.meaning.specs.declared.Standing.{Standing}
 use Rattle.meaning.specs.Numbers.{most_connections}
@@ -15,7 +15,7 @@ use Rattle.words.proofs.Readings.{standing_word}
 use Rattle.multiplexer.proofs.Admits.{ready, newcomer, settings_are}
 use Rattle.multiplexer.proofs.Admits.{answer_range, answer_full, answer_rate, answer_search, refused, taken}
 use Rattle.multiplexer.proofs.sound.Sound.admit.Goals as goal
-use Rattle.std.proofs.Common.{Ok, Err}
+use Rattle.std.proofs.Common.{Err}
 
 pub returns-then-not-allowed-clause-promise : goal.returns-then-not-allowed-clause-promise
 unfolding after_admission
@@ -66,37 +66,16 @@ returns-in-Some-clause-promise c =
     (omega (arith, rate_is, c.cycle.ensures, c.if-cycle-rate.false))) refl
 
 pub returns-clause-promise : goal.returns-clause-promise
-unfolding search_answer
 returns-clause-promise c =
-    let ws = c.args.self.now.words.now in
-    let rate_is : c.rate.result ≡ rate (contents ws).settings (with_newcomer (contents ws) c.args.c) =
-    c.rate.ensures ∙ ap₂ rate (settings_are ws) (newcomer ws c.args.c) in
-    let count = c.standing_count-n in
-    let one_more : count.result + 1 ≡ suc (length (contents ws).standing) = omega (arith, count.ensures) in
     let row : Standing = record { asked = c.args.c; allowance = c.fresh.result } in
-    let written = c.append_row in
-    taken ws c.args.c c.args.self.now.sound written.new.ws (count.result + 1) row (ap (λ a. record { asked = c.args.c; allowance = a }) c.fresh.ensures)
-    (ap Ok one_more ∙
-    answer_search (contents ws) c.args.c (sound_contents ws c.args.self.now.sound) holds
-    (c.in_default.ensures ∙ ap₂ finite_search (settings_are ws) (newcomer ws c.args.c))
-    (sym c.allowed.ensures ∙ c.if-not-allowed.false) (omega (arith, c.standing_count-n.ensures, c.if-n-ge32.false))
-    (omega (arith, rate_is, c.cycle.ensures, c.if-cycle-rate.false)))
-    written.ensures
+    taken c.args.self.now.words.now c.args.c c.args.self.now.sound c.append_row.new.ws c.standing_count-n.result c.cycle.result c.rate.result row
+    (ap (λ a. record { asked = c.args.c; allowance = a }) c.fresh.ensures) (sym c.if-not-allowed.false ∙ c.allowed.ensures)
+    c.standing_count-n.ensures c.if-n-ge32.false c.cycle.ensures c.rate.ensures c.if-cycle-rate.false c.in_default.ensures c.append_row.ensures
 
 pub invariant_of-self-2 : goal.invariant_of-self-2
-unfolding search_answer
 invariant_of-self-2 c =
-    let ws = c.args.self.now.words.now in
-    let rate_is : c.rate.result ≡ rate (contents ws).settings (with_newcomer (contents ws) c.args.c) =
-    c.rate.ensures ∙ ap₂ rate (settings_are ws) (newcomer ws c.args.c) in
-    let count = c.standing_count-n in
-    let one_more : count.result + 1 ≡ suc (length (contents ws).standing) = omega (arith, count.ensures) in
     let row : Standing = record { asked = c.args.c; allowance = c.fresh.result } in
-    let written = c.append_row in
-    let whole = taken ws c.args.c c.args.self.now.sound written.new.ws (count.result + 1) row (ap (λ a. record { asked = c.args.c; allowance = a }) c.fresh.ensures)
-    (ap Ok one_more ∙
-    answer_search (contents ws) c.args.c (sound_contents ws c.args.self.now.sound) holds
-    (c.in_default.ensures ∙ ap₂ finite_search (settings_are ws) (newcomer ws c.args.c))
-    (sym c.allowed.ensures ∙ c.if-not-allowed.false) (omega (arith, c.standing_count-n.ensures, c.if-n-ge32.false))
-    (omega (arith, rate_is, c.cycle.ensures, c.if-cycle-rate.false)))
-    written.ensures in record { sound = whole.1.still_sound }
+    let whole = taken c.args.self.now.words.now c.args.c c.args.self.now.sound c.append_row.new.ws c.standing_count-n.result c.cycle.result c.rate.result row
+    (ap (λ a. record { asked = c.args.c; allowance = a }) c.fresh.ensures) (sym c.if-not-allowed.false ∙ c.allowed.ensures)
+    c.standing_count-n.ensures c.if-n-ge32.false c.cycle.ensures c.rate.ensures c.if-cycle-rate.false c.in_default.ensures c.append_row.ensures in
+    record { sound = whole.1.still_sound }

@@ -4,7 +4,6 @@ use native.Mathlib.Omega.{arith}
 use lib.Dec.{eqb}
 use Rattle.laws.specs.Tests.{within, within_facts}
 use Rattle.words.specs.Contents.{contents}
-use Rattle.words.proofs.Counts.{sound_fitting}
 use Rattle.multiplexer.proofs.Admits.{class_off, longest_off, burst_off, period_off, divides}
 use Rattle.multiplexer.proofs.sound.Sound.allowed.Goals as goal
 

@@ -9,7 +9,7 @@ use Rattle.words.proofs.Counts.{sound_fitting}
 use Rattle.words.proofs.TestedSound.{sound_contents}
 use Rattle.envelope.specs.Record.{Ready}
 use Rattle.multiplexer.proofs.Offers.{stands_as, number_within, row_ready, answer_unknown, answer_length, answer_unfit}
-use Rattle.multiplexer.proofs.Offers.{answer_full, answer_accepted, refused, taken}
+use Rattle.multiplexer.proofs.Offers.{answer_full, refused}
 use Rattle.multiplexer.proofs.sound.Sound.offer.Goals as goal
 use Rattle.std.proofs.Common.{Err}
 
@@ -118,43 +118,3 @@ accept-requires c =
           sym c.conforming.ensures ∙ c.if-not-conforming.false);
       room = omega (arith, c.waiting_count.ensures, c.if-waiting_count-ge1024.false);
     }
-
-pub returns-clause-promise : goal.returns-clause-promise
-returns-clause-promise c =
-    let ws = c.args.self.now.words.now in
-    let n = c.args.n in
-    let units = c.args.units in
-    let row = c.read_row-row in
-    let a = c.accept in
-    taken ws n units c.args.self.now.sound a.new.ws a.result a.ensures.0
-    (answer_accepted (contents ws) n units (sound_contents ws c.args.self.now.sound)
-    (stands_as (contents ws) n c.standing_count.result c.standing_count.ensures
-    c.is_within.result c.is_within.ensures
-    (c.if-not-is_within.false))
-    (ap (λ q. within 1 units q.longest) row.ensures.0 ∙ sym c.is_within-2.ensures ∙
-    c.if-not-is_within-2.false)
-    (ap₂ (λ q a. conforms q a (contents ws).counter) row.ensures.0 row.ensures.1 ∙
-    (ap (conforms row.result.asked row.result.allowance) (sym c.counter.ensures) ∙
-    sym c.conforming.ensures ∙ c.if-not-conforming.false))
-    (omega (arith, c.waiting_count.ensures, c.if-waiting_count-ge1024.false)))
-    a.ensures.1
-
-pub invariant_of-self-2 : goal.invariant_of-self-2
-invariant_of-self-2 c =
-    let ws = c.args.self.now.words.now in
-    let n = c.args.n in
-    let units = c.args.units in
-    let row = c.read_row-row in
-    let a = c.accept in
-    let whole = taken ws n units c.args.self.now.sound a.new.ws a.result a.ensures.0
-    (answer_accepted (contents ws) n units (sound_contents ws c.args.self.now.sound)
-    (stands_as (contents ws) n c.standing_count.result c.standing_count.ensures
-    c.is_within.result c.is_within.ensures
-    (c.if-not-is_within.false))
-    (ap (λ q. within 1 units q.longest) row.ensures.0 ∙ sym c.is_within-2.ensures ∙
-    c.if-not-is_within-2.false)
-    (ap₂ (λ q a. conforms q a (contents ws).counter) row.ensures.0 row.ensures.1 ∙
-    (ap (conforms row.result.asked row.result.allowance) (sym c.counter.ensures) ∙
-    sym c.conforming.ensures ∙ c.if-not-conforming.false))
-    (omega (arith, c.waiting_count.ensures, c.if-waiting_count-ge1024.false)))
-    a.ensures.1 in record { sound = whole.1.still_sound }

@@ -20,5 +20,7 @@ returns-clause-promise c =
 pub invariant_of-self : goal.invariant_of-self
 invariant_of-self c =
     let m = c.move_on in
-    record { sound = (at_move c.args.self.now.words.now c.args.self.now.sound m.new.ws m.result (omega arith)
-    (sym c.blocked.ensures ∙ c.if-blocked.false) m.ensures.0 m.ensures.1).1.still_sound }
+    record {
+      sound = (at_move c.args.self.now.words.now c.args.self.now.sound m.new.ws m.result (omega arith)
+          (sym c.blocked.ensures ∙ c.if-blocked.false) m.ensures.0 m.ensures.1).1.still_sound;
+    }
