@@ -71,36 +71,6 @@ pub settings_are : (ws : List ℕ) → settings_at ws ≡ (contents ws).settings
 unfolding contents
 settings_are ws = refl
 
--- The numbers of a connection, tested one after another.
-module _ (set : Settings) (c : Connection) where
-  -- A newcomer whose class number is off range is not allowed.
-  pub class_off : within 1 c.class (class_count set) ≡ false → false ≡ connection_allowed set c
-  unfolding connection_allowed class_allowed
-  class_off e = rw e refl
-
-  -- The class is in range, s is not.
-  pub longest_off : within 1 c.class (class_count set) ≡ true → within 1 c.longest 64 ≡ false → false ≡ connection_allowed set c
-  unfolding connection_allowed class_allowed longest_allowed
-  longest_off e f = rw (e, f) refl
-
-  -- A newcomer whose b is off range is not allowed.
-  pub burst_off : within 1 c.class (class_count set) ≡ true → within 1 c.longest 64 ≡ true → within 1 c.burst 64 ≡ false
-      → false ≡ connection_allowed set c
-  unfolding connection_allowed class_allowed longest_allowed burst_allowed
-  burst_off e f g = rw (e, f, g) refl
-
-  -- A newcomer whose T is off range is not allowed.
-  pub period_off : within 1 c.class (class_count set) ≡ true → within 1 c.longest 64 ≡ true → within 1 c.burst 64 ≡ true
-      → within 1 c.period set.cycle ≡ false → false ≡ connection_allowed set c
-  unfolding connection_allowed class_allowed longest_allowed burst_allowed period_allowed
-  period_off e f g h = rw (e, f, g, h) refl
-
-  -- So is T: what is left to ask is whether it divides M.
-  pub divides : within 1 c.class (class_count set) ≡ true → within 1 c.longest 64 ≡ true → within 1 c.burst 64 ≡ true
-      → within 1 c.period set.cycle ≡ true → eqb (set.cycle % c.period) 0 ≡ connection_allowed set c
-  unfolding connection_allowed class_allowed longest_allowed burst_allowed period_allowed
-  divides e f g h = rw (e, f, g, h) refl
-
 -- The answers of an admission on sound contents, in their order.
 module _ (b : Box) (c : Connection) (s : sound b ≡ true) where
   -- Where the newcomer is not allowed, the answer is 3.

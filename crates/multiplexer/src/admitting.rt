@@ -15,7 +15,11 @@ use words::numbers::is_within;
 
 impl Sound<'_> {
     // Whether the numbers of a connection are allowed: class, s, b and T in range, T dividing M.
-    #[tactic(auto, using(words::proofs::Counts::sound_fitting))]
+    #[tactic(
+        auto,
+        using(words::proofs::Counts::sound_fitting, laws::specs::Tests::within_facts),
+        unfolding(meaning::specs::Numbers::connection_allowed, meaning::specs::Numbers::class_allowed, meaning::specs::Numbers::longest_allowed, meaning::specs::Numbers::burst_allowed, meaning::specs::Numbers::period_allowed)
+    )]
     fn allowed(&self, c: Connection) -> bool
         ensures { result ≡ connection_allowed (contents self.now.words.now).settings c }
     {
@@ -68,6 +72,7 @@ impl Sound<'_> {
 }
 
 // Admission: "Admission: 1, 3, 4, 5, 6".
+#[tactic(auto, using(crate::proofs::Sounds::unchanged), unfolding(crate::specs::Promised::admission, crate::specs::Promised::words_admitted))]
 pub fn admit(
     ws: &mut [u32],
     class: u32,

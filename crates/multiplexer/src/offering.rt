@@ -77,6 +77,7 @@ impl Sound<'_> {
 }
 
 // Offering a packet: "Offer: 1, 7, 8, 9, 10".
+#[tactic(auto, using(crate::proofs::Sounds::unchanged), unfolding(crate::specs::Promised::offering, crate::specs::Promised::words_offered))]
 pub fn offer(ws: &mut [u32], n: u32, units: u32) -> Result<u32, Refusal>
     ensures { OfferPromise ws.old n units result ws.new }
 {
