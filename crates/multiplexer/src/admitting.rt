@@ -15,11 +15,7 @@ use words::numbers::is_within;
 
 impl Sound<'_> {
     // Whether the numbers of a connection are allowed: class, s, b and T in range, T dividing M.
-    #[tactic(
-        auto,
-        using(words::proofs::Counts::sound_fitting, laws::specs::Tests::within_facts),
-        unfolding(meaning::specs::Numbers::connection_allowed, meaning::specs::Numbers::class_allowed, meaning::specs::Numbers::longest_allowed, meaning::specs::Numbers::burst_allowed, meaning::specs::Numbers::period_allowed)
-    )]
+    #[tactic(auto, using(crate::proofs::Admits::numbers))]
     fn allowed(&self, c: Connection) -> bool
         ensures { result ≡ connection_allowed (contents self.now.words.now).settings c }
     {
@@ -40,7 +36,7 @@ impl Sound<'_> {
     }
 
     // An admission.
-    #[tactic(auto, using(words::proofs::Counts::sound_fitting))]
+    #[tactic(auto, using(crate::proofs::Admits::admits), unfolding(meaning::specs::Calls::admission_answer, meaning::specs::Admission::rate_holds))]
     pub fn admit(&mut self, c: Connection) -> Result<u32, Refusal>
         ensures same { self.new.words.ghost_name ≡ self.old.words.ghost_name }
         ensures promise { AdmitSoundPromise self.old.words.now c result self.new.words.now }
