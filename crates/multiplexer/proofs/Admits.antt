@@ -1,6 +1,6 @@
 -- An admission in words: what sound words give the search, and the answers.
-use Prim.Native.Nat.{ℕ, suc, ◌%◌, ◌≤◌, ◌<◌}
-use mathlib.Core.Path.{◌≡◌, refl, sym, ap, ◌∙◌, subst}
+use Prim.Native.Nat.{ℕ, suc, ◌+◌, ◌%◌, ◌≤◌, ◌<◌}
+use mathlib.Core.Path.{◌≡◌, refl, sym, ap, ap₂, ◌∙◌, subst}
 use mathlib.Core.Bool.{true, false}
 use mathlib.Core.List.{List, [], ◌∷◌, ◌++◌}
 use native.Mathlib.Omega.{arith}
@@ -9,7 +9,7 @@ use lib.Dec.{eqb}
 use borrow.Author.Tests.{le-leb, lt-leb}
 use Rattle.laws.specs.Tests.{within, every_at}
 use Rattle.laws.specs.Lists.{get_or_member}
-use Rattle.laws.specs.Search.{Search}
+use Rattle.laws.specs.Search.{Search, holds}
 use Rattle.laws.specs.Series.{length_series, get_or_series}
 use Rattle.meaning.specs.declared.Refusal.{Refusal}
 use Rattle.meaning.specs.declared.Connection.{Connection}
@@ -142,13 +142,22 @@ module _ (ws : List ℕ) (c : Connection) (h : sound_words ws ≡ true) where
       → (r ≡ answer) × Leaves ws ws (after_admission (contents ws) c answer)
   refused r e same = (e, subst (Leaves ws ws) (sym same ∙ ap (after_admission (contents ws) c) e) (leaves_same ws h))
 
-  -- A connection that is taken stands in a new row.
-  pub taken : (after : List ℕ) (n : ℕ) (row : Standing) → row ≡ record { asked = c; allowance = full c } → Ok n ≡ answer
+  -- A connection that is taken stands in a new row; the count, M and the rate are as the code reads them.
+  pub taken : (after : List ℕ) (n slots sum : ℕ) (row : Standing) → row ≡ record { asked = c; allowance = full c }
+      → true ≡ connection_allowed (contents ws).settings c → n ≡ length (contents ws).standing → n < most_connections
+      → slots ≡ (contents ws).settings.cycle → sum ≡ rate (settings_at ws) (with_asked ws c) → sum ≤ slots
+      → holds ≡ finite_search (settings_at ws) (with_asked ws c)
       → Become ws after (with_standing (contents ws) ((contents ws).standing ++ (row ∷ [])))
-      → (Ok n ≡ answer) × Leaves ws after (after_admission (contents ws) c answer)
-  unfolding after_admission
-  taken after n row f e b =
-      let k : with_standing (contents ws) ((contents ws).standing ++ (row ∷ [])) ≡ after_admission (contents ws) c (Ok n) =
+      → (Ok (n + 1) ≡ answer) × Leaves ws after (after_admission (contents ws) c answer)
+  unfolding after_admission search_answer
+  taken after n slots sum row f ok en few es er fits found b =
+      let one_more : n + 1 ≡ suc (length (contents ws).standing) = omega arith in
+      let rate_is : sum ≡ rate (contents ws).settings (with_newcomer (contents ws) c) = er ∙ ap₂ rate (settings_are ws) (newcomer ws c) in
+      let e : Ok (n + 1) ≡ answer =
+      ap Ok one_more ∙
+      answer_search (contents ws) c (sound_contents ws h) holds (found ∙ ap₂ finite_search (settings_are ws) (newcomer ws c)) (sym ok) (omega arith)
+      (omega arith) in
+      let k : with_standing (contents ws) ((contents ws).standing ++ (row ∷ [])) ≡ after_admission (contents ws) c (Ok (n + 1)) =
       ap (λ x. with_standing (contents ws) ((contents ws).standing ++ (x ∷ []))) f in (
         e,
         leaves ws after (after_admission (contents ws) c answer) h (admission_keeps_sound (contents ws) c (sound_contents ws h))

@@ -237,7 +237,7 @@ module _ (b : Box) (n units : ℕ) (s : sound b ≡ true) where
   answer_full e f g h = rw (s, e, f, g, le-leb most_waiting (length (waiting b)) h) refl
 
   -- Where the packet fits and there is room, it is accepted with the next serial.
-  pub answer_accepted : stands b n ≡ true → within 1 units (connection b n).longest ≡ true
+  answer_accepted : stands b n ≡ true → within 1 units (connection b n).longest ≡ true
       → conforms (connection b n) (allowance b n) b.counter ≡ true
       → length (waiting b) < most_waiting → Ok (suc b.accepted) ≡ offer_answer b n units
   unfolding offer_answer
@@ -251,17 +251,20 @@ module _ (ws : List ℕ) (n units : ℕ) (h : sound_words ws ≡ true) where
   refused r e same = (e, subst (Leaves ws ws) (sym same ∙ ap (after_offer (contents ws) n units) e) (leaves_same ws h))
 
   -- A packet that is taken leaves the box with it.
-  pub taken : (after : List ℕ) (serial : ℕ) → serial ≡ suc (contents ws).accepted
-      → Ok (suc (contents ws).accepted) ≡ offer_answer (contents ws) n units
+  pub taken : (row : Standing) → Acceptable ws n units row → (after : List ℕ) (serial : ℕ) → serial ≡ suc (contents ws).accepted
       → Become ws after (accepted_box (contents ws) n units)
       → (Ok serial ≡ offer_answer (contents ws) n units) ×
       Leaves ws after (after_offer (contents ws) n units (offer_answer (contents ws) n units))
-  taken after serial q e b = (
-    ap Ok q ∙ e,
-    leaves ws after (after_offer (contents ws) n units (offer_answer (contents ws) n units)) h
-        (offer_keeps_sound (contents ws) n units (sound_contents ws h))
-        (subst (Become ws after) (ap (after_offer (contents ws) n units) e) b),
-  )
+  taken row ok after serial q b =
+      let permitted : within 1 units (connection (contents ws) n).longest ≡ true = rw ok.row_asked ok.permitted in
+      let fit : conforms (connection (contents ws) n) (allowance (contents ws) n) (contents ws).counter ≡ true =
+      rw (ok.row_asked, ok.row_allowance) ok.fit in
+      let e = answer_accepted (contents ws) n units (sound_contents ws h) ok.number_stands permitted fit ok.room in (
+        ap Ok q ∙ e,
+        leaves ws after (after_offer (contents ws) n units (offer_answer (contents ws) n units)) h
+            (offer_keeps_sound (contents ws) n units (sound_contents ws h))
+            (subst (Become ws after) (ap (after_offer (contents ws) n units) e) b),
+      )
 
 -- What an acceptance goes by.
 pub ruleset accepting = (sound_fitting, accepted_most, number_within)

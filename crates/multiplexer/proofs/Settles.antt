@@ -26,17 +26,17 @@ pub step_settles : (entry : List ℕ) (r s : Result Stepped Refusal) (after left
     StepPromise entry r after → StepPromise entry s left → (r ≡ s) × (after ≡ left)
 step_settles entry r s after left p q = (one p.0 q.0, one p.1 q.1)
 
--- The same calls for words that are known to be sound: `admit_sound`, `offer_sound` and `step_sound`.
+-- The same calls on words that are known to be sound: the methods `admit`, `offer` and `step` of `Sound`.
 pub admit_sound_settles : (entry : List ℕ) (c : Connection) (r s : Result ℕ Refusal) (after left : List ℕ) →
     AdmitSoundPromise entry c r after → AdmitSoundPromise entry c s left → (r ≡ s) × (after ≡ left)
 admit_sound_settles entry c r s after left p q = (one p.0 q.0, one p.1.words_are q.1.words_are)
 
--- Two results of `offer_sound` that keep its promise are the same, and so are the words they leave.
+-- Two results of `Sound::offer` that keep its promise are the same, and so are the words they leave.
 pub offer_sound_settles : (entry : List ℕ) (n units : ℕ) (r s : Result ℕ Refusal) (after left : List ℕ) →
     OfferSoundPromise entry n units r after → OfferSoundPromise entry n units s left → (r ≡ s) × (after ≡ left)
 offer_sound_settles entry n units r s after left p q = (one p.0 q.0, one p.1.words_are q.1.words_are)
 
--- Two results of `step_sound` that keep its promise are the same, and so are the words they leave.
+-- Two results of `Sound::step` that keep its promise are the same, and so are the words they leave.
 pub step_sound_settles : (entry : List ℕ) (r s : Result Stepped Refusal) (after left : List ℕ) →
     StepSoundPromise entry r after → StepSoundPromise entry s left → (r ≡ s) × (after ≡ left)
 step_sound_settles entry r s after left p q = (one p.0 q.0, one p.1.words_are q.1.words_are)

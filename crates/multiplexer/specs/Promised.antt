@@ -94,8 +94,3 @@ pub record Acceptable (ws : List ℕ) (n units : ℕ) (row : Standing) : Type 0 
 -- The box once it is taken.
 abbrev pub accepted_box : Box → ℕ → ℕ → Box
 accepted_box box n units = after_offer box n units (Ok (suc box.accepted))
-
--- It is taken: the answer is its serial, and the words are those of that box.
-abbrev pub Accepts : List ℕ → ℕ → ℕ → ℕ → List ℕ → Type 0
-Accepts entry n units r exit =
-    (r ≡ suc (contents entry).accepted) × Become entry exit (accepted_box (contents entry) n units)

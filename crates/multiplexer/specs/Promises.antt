@@ -28,13 +28,13 @@ AdmitSoundPromise entry c r exit =
     (r ≡ admission_answer (contents entry) c) ×
     Leaves entry exit (after_admission (contents entry) c (admission_answer (contents entry) c))
 
--- What `offer_sound` promises on words that are known to be sound.
+-- What the method `offer` of `Sound` promises.
 abbrev pub OfferSoundPromise : List ℕ → ℕ → ℕ → Result ℕ Refusal → List ℕ → Type 0
 OfferSoundPromise entry n units r exit =
     (r ≡ offer_answer (contents entry) n units) ×
     Leaves entry exit (after_offer (contents entry) n units (offer_answer (contents entry) n units))
 
--- What `step_sound` promises on words that are known to be sound.
+-- What the method `step` of `Sound` promises.
 abbrev pub StepSoundPromise : List ℕ → Result Stepped Refusal → List ℕ → Type 0
 StepSoundPromise entry r exit =
     (r ≡ step_answer (contents entry)) × Leaves entry exit (after_step (contents entry) (step_answer (contents entry)))

@@ -1,10 +1,10 @@
 // Admission. Document 01, "Admission".
-ghost use Rattle.std.specs.Prelude.{◌≡◌, true};
+ghost use Rattle.std.specs.Prelude.{◌≡◌};
 ghost use Rattle.meaning.specs.Numbers.{connection_allowed};
 ghost use Rattle.words.specs.Contents.{contents};
-ghost use Rattle.words.specs.Sound.{sound_words};
 ghost use Rattle.multiplexer.specs.Promises.{AdmitPromise, AdmitSoundPromise};
 
+use crate::sound::Sound;
 use admission::Asking;
 use envelope::fresh;
 use meaning::{Connection, Refusal, Standing};
@@ -13,54 +13,58 @@ use tables::rows::{append_row, standing_count};
 use tables::settings::{class_count, cycle};
 use words::numbers::is_within;
 
-// Whether the numbers of a connection are allowed: class, s, b and T in range, T dividing M.
-fn allowed(ws: &[u32], c: Connection) -> bool
-    requires { sound_words ws.now ≡ true }
-    ensures { result ≡ connection_allowed (contents ws.now).settings c }
-{
-    let period = c.period;
-    if !is_within(1, c.class, class_count(ws)) {
-        return false;
+impl Sound<'_> {
+    // Whether the numbers of a connection are allowed: class, s, b and T in range, T dividing M.
+    #[tactic(auto, using(words::proofs::Counts::sound_fitting))]
+    fn allowed(&self, c: Connection) -> bool
+        ensures { result ≡ connection_allowed (contents self.now.words.now).settings c }
+    {
+        let period = c.period;
+        if !is_within(1, c.class, class_count(self.words)) {
+            return false;
+        }
+        if !is_within(1, c.longest, 64) {
+            return false;
+        }
+        if !is_within(1, c.burst, 64) {
+            return false;
+        }
+        if !is_within(1, period, cycle(self.words)) {
+            return false;
+        }
+        cycle(self.words) % period == 0
     }
-    if !is_within(1, c.longest, 64) {
-        return false;
-    }
-    if !is_within(1, c.burst, 64) {
-        return false;
-    }
-    if !is_within(1, period, cycle(ws)) {
-        return false;
-    }
-    cycle(ws) % period == 0
-}
 
-// An admission on sound words.
-pub fn admit_sound(ws: &mut [u32], c: Connection) -> Result<u32, Refusal>
-    requires { sound_words ws.old ≡ true }
-    ensures { AdmitSoundPromise ws.old c result ws.new }
-{
-    if !allowed(ws, c) {
-        return Err(Refusal::ConnectionOffRange);
+    // An admission.
+    #[tactic(auto, using(words::proofs::Counts::sound_fitting))]
+    pub fn admit(&mut self, c: Connection) -> Result<u32, Refusal>
+        ensures same { self.new.words.ghost_name ≡ self.old.words.ghost_name }
+        ensures promise { AdmitSoundPromise self.old.words.now c result self.new.words.now }
+    {
+        if !self.allowed(c) {
+            return Err(Refusal::ConnectionOffRange);
+        }
+        let ws = &mut *self.words;
+        let n = standing_count(ws);
+        if 32 <= n {
+            return Err(Refusal::TableFull);
+        }
+        let asking = Asking { ws, newcomer: c };
+        if cycle(ws) < asking.rate() {
+            return Err(Refusal::RateExceeded);
+        }
+        if let Some(t) = asking.first_failing() {
+            return Err(Refusal::ConditionFails(t));
+        }
+        append_row(
+            ws,
+            Standing {
+                asked: c,
+                allowance: fresh(c),
+            },
+        );
+        Ok(n + 1)
     }
-    let n = standing_count(ws);
-    if 32 <= n {
-        return Err(Refusal::TableFull);
-    }
-    let asking = Asking { ws, newcomer: c };
-    if cycle(ws) < asking.rate() {
-        return Err(Refusal::RateExceeded);
-    }
-    if let Some(t) = asking.first_failing() {
-        return Err(Refusal::ConditionFails(t));
-    }
-    append_row(
-        ws,
-        Standing {
-            asked: c,
-            allowance: fresh(c),
-        },
-    );
-    Ok(n + 1)
 }
 
 // Admission: "Admission: 1, 3, 4, 5, 6".
@@ -76,13 +80,10 @@ pub fn admit(
     if !is_sound(ws) {
         return Err(Refusal::NotSound);
     }
-    admit_sound(
-        ws,
-        Connection {
-            class,
-            longest,
-            burst,
-            period,
-        },
-    )
+    Sound { words: ws }.admit(Connection {
+        class,
+        longest,
+        burst,
+        period,
+    })
 }

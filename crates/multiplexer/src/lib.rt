@@ -1,6 +1,7 @@
-// The public calls on the words of a box: admit, offer, step. Each tests the state, and then calls the inner function on a sound one.
+// The public calls on the words of a box: admit, offer, step. Each tests the state, and then makes the call on `Sound` words.
 #![tactic(auto)]
 
 pub mod admitting;
 pub mod offering;
+pub mod sound;
 pub mod stepping;

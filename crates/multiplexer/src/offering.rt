@@ -1,11 +1,12 @@
 // Offering a packet. Document 01, "Envelope" and "Queues and steps".
-ghost use Rattle.std.specs.Prelude.{◌≡◌, true, ◌≤◌};
+ghost use Rattle.std.specs.Prelude.{◌≡◌, true, ◌≤◌, Ok};
 ghost use Rattle.words.specs.Places.{word, classes_at};
 ghost use Rattle.words.specs.Contents.{contents};
 ghost use Rattle.words.specs.Sound.{sound_words};
-ghost use Rattle.multiplexer.specs.Promised.{TagOf, Acceptable, Accepts};
+ghost use Rattle.multiplexer.specs.Promised.{TagOf, Acceptable};
 ghost use Rattle.multiplexer.specs.Promises.{OfferPromise, OfferSoundPromise};
 
+use crate::sound::Sound;
 use envelope::{charge, conforming};
 use meaning::{Packet, Refusal, Standing};
 use soundness::testing::is_sound;
@@ -29,7 +30,7 @@ fn tag_of(ws: &[u32], class: u32) -> usize
 #[tactic(auto, using(crate::proofs::Offers::accepting))]
 fn accept(ws: &mut [u32], n: u32, units: u32, mut row: Standing) -> u32
     requires { Acceptable ws.old n units row }
-    ensures { Accepts ws.old n units result ws.new }
+    ensures { OfferSoundPromise ws.old n units (Ok result) ws.new }
 {
     let slot = counter(ws);
     let serial = accepted(ws) + 1;
@@ -50,25 +51,29 @@ fn accept(ws: &mut [u32], n: u32, units: u32, mut row: Standing) -> u32
     serial
 }
 
-// An offer on sound words.
-pub fn offer_sound(ws: &mut [u32], n: u32, units: u32) -> Result<u32, Refusal>
-    requires { sound_words ws.old ≡ true }
-    ensures { OfferSoundPromise ws.old n units result ws.new }
-{
-    if !is_within(1, n, standing_count(ws)) {
-        return Err(Refusal::NoConnection);
+impl Sound<'_> {
+    // An offer.
+    #[tactic(auto, using(words::proofs::Counts::sound_fitting))]
+    pub fn offer(&mut self, n: u32, units: u32) -> Result<u32, Refusal>
+        ensures same { self.new.words.ghost_name ≡ self.old.words.ghost_name }
+        ensures promise { OfferSoundPromise self.old.words.now n units result self.new.words.now }
+    {
+        let ws = &mut *self.words;
+        if !is_within(1, n, standing_count(ws)) {
+            return Err(Refusal::NoConnection);
+        }
+        let row = read_row(ws, n);
+        if !is_within(1, units, row.asked.longest) {
+            return Err(Refusal::WrongLength);
+        }
+        if !conforming(row, counter(ws)) {
+            return Err(Refusal::NotFitting);
+        }
+        if 1024 <= waiting_count(ws) {
+            return Err(Refusal::StoreFull);
+        }
+        Ok(accept(ws, n, units, row))
     }
-    let row = read_row(ws, n);
-    if !is_within(1, units, row.asked.longest) {
-        return Err(Refusal::WrongLength);
-    }
-    if !conforming(row, counter(ws)) {
-        return Err(Refusal::NotFitting);
-    }
-    if 1024 <= waiting_count(ws) {
-        return Err(Refusal::StoreFull);
-    }
-    Ok(accept(ws, n, units, row))
 }
 
 // Offering a packet: "Offer: 1, 7, 8, 9, 10".
@@ -78,5 +83,5 @@ pub fn offer(ws: &mut [u32], n: u32, units: u32) -> Result<u32, Refusal>
     if !is_sound(ws) {
         return Err(Refusal::NotSound);
     }
-    offer_sound(ws, n, units)
+    Sound { words: ws }.offer(n, units)
 }

@@ -3,44 +3,17 @@ ghost use Rattle.std.specs.Prelude.{◌≡◌, true, ◌≤◌};
 ghost use Rattle.meaning.specs.Numbers.{last_slot};
 ghost use Rattle.meaning.specs.Step.{turn_due};
 ghost use Rattle.words.specs.Contents.{contents};
-ghost use Rattle.words.specs.Sound.{Fitting, sound_words};
+ghost use Rattle.words.specs.Sound.{Fitting};
 ghost use Rattle.multiplexer.specs.Promised.{turn_blocked, Movable, Moves, SendsUnit};
 ghost use Rattle.multiplexer.specs.Promises.{StepPromise, StepSoundPromise};
 
+use crate::sound::Sound;
 use meaning::{Link, Refusal, Stepped};
 use soundness::testing::is_sound;
 use store::queues::{load_link, tag_zero_waits};
 use tables::counter::{counter, raise_counter};
 use tables::link::{read_link, write_link};
 use tables::settings::interval;
-
-// Whether the queues turn at the slot to which the counter is raised.
-fn turn_due(ws: &[u32]) -> bool
-    requires { sound_words ws.now ≡ true }
-    ensures { result ≡ turn_due (contents ws.now) }
-{
-    let next = counter_of(ws) + 1;
-    next % interval(ws) == 0
-}
-
-// The counter of sound words.
-fn counter_of(ws: &[u32]) -> u32
-    requires { sound_words ws.now ≡ true }
-    ensures { (result ≡ (contents ws.now).counter) × (result ≤ last_slot) }
-{
-    counter(ws)
-}
-
-// The step would turn the queues while tag 0 still has a waiting packet, once the step has taken one.
-fn blocked(ws: &[u32]) -> bool
-    requires { sound_words ws.now ≡ true }
-    ensures { result ≡ turn_blocked (contents ws.now) }
-{
-    if !turn_due(ws) {
-        return false;
-    }
-    tag_zero_waits(ws)
-}
 
 // A unit of the packet on the link is sent: the answer, with the departure at the slot given.
 fn send_unit(ws: &mut [u32], departure: u32) -> Stepped
@@ -68,29 +41,49 @@ fn send_unit(ws: &mut [u32], departure: u32) -> Stepped
 }
 
 // The step of a sound box that is neither at its end nor blocked: take, send, raise the counter, turn if due.
+#[tactic(auto, using(words::proofs::Counts::sound_fitting))]
 fn move_on(ws: &mut [u32]) -> Stepped
     requires { Movable ws.old }
     ensures { Moves ws.old result ws.new }
 {
-    let departure = counter_of(ws) + 1;
+    let departure = counter(ws) + 1;
     load_link(ws);
     let answer = send_unit(ws, departure);
     raise_counter(ws);
     answer
 }
 
-// A step on sound words.
-pub fn step_sound(ws: &mut [u32]) -> Result<Stepped, Refusal>
-    requires { sound_words ws.old ≡ true }
-    ensures { StepSoundPromise ws.old result ws.new }
-{
-    if 4000000000 <= counter_of(ws) {
-        return Err(Refusal::CounterEnded);
+impl Sound<'_> {
+    // Whether the queues turn at the slot to which the counter is raised.
+    #[tactic(auto, using(words::proofs::Counts::sound_fitting, crate::proofs::Steps::turn_is, crate::proofs::Steps::interval_positive))]
+    fn turn_due(&self) -> bool
+        ensures { result ≡ turn_due (contents self.now.words.now) }
+    {
+        let next = self.counter() + 1;
+        next % interval(self.words) == 0
     }
-    if blocked(ws) {
-        return Err(Refusal::TurnBlocked);
+
+    // The step would turn the queues while tag 0 still has a waiting packet, once the step has taken one.
+    #[tactic(auto, using(words::proofs::Counts::sound_fitting))]
+    fn blocked(&self) -> bool
+        ensures { result ≡ turn_blocked (contents self.now.words.now) }
+    {
+        self.turn_due() && tag_zero_waits(self.words)
     }
-    Ok(move_on(ws))
+
+    // A step.
+    pub fn step(&mut self) -> Result<Stepped, Refusal>
+        ensures same { self.new.words.ghost_name ≡ self.old.words.ghost_name }
+        ensures promise { StepSoundPromise self.old.words.now result self.new.words.now }
+    {
+        if 4000000000 <= self.counter() {
+            return Err(Refusal::CounterEnded);
+        }
+        if self.blocked() {
+            return Err(Refusal::TurnBlocked);
+        }
+        Ok(move_on(self.words))
+    }
 }
 
 // One step: "Step: 1, 12, 11".
@@ -100,5 +93,5 @@ pub fn step(ws: &mut [u32]) -> Result<Stepped, Refusal>
     if !is_sound(ws) {
         return Err(Refusal::NotSound);
     }
-    step_sound(ws)
+    Sound { words: ws }.step()
 }

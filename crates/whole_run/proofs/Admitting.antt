@@ -1,7 +1,6 @@
 -- The admissions of a file, one after another: what is left of `admit_all` at each place.
 use Prim.Native.Nat.{ℕ, suc, ◌+◌, ◌*◌, ◌/◌, ◌<◌}
 use mathlib.Core.Path.{◌≡◌, refl, sym, ap, ◌∙◌, subst}
-use mathlib.Core.Bool.{true}
 use mathlib.Core.List.{List, [], ◌∷◌, ◌++◌, append_assoc, append-nil}
 use native.Mathlib.Omega.{arith}
 use lib.ListN.{length, get_or, take, drop, set}
@@ -14,7 +13,6 @@ use Rattle.meaning.specs.Plan.{words_of, connection_at}
 use Rattle.meaning.specs.Run.{AfterAdmissions, line_of_admission, admit_all}
 use Rattle.meaning.specs.Lines.{line_text, text_of}
 use Rattle.words.specs.Contents.{contents}
-use Rattle.words.specs.Sound.{sound_words}
 use Rattle.plan.specs.Entries.{length_table, get_or_table}
 use Rattle.lines.specs.Put.{Room, Put}
 use Rattle.multiplexer.specs.Promised.{Leaves}
@@ -30,16 +28,14 @@ rest_admitted bytes i box = admit_all (suc i) (drop i (connections_in bytes)) bo
 
 -- The first i admissions are done.
 pub record Admitting (bytes : List ℕ) (box : Box) (i : ℕ) (ws numbers before out : List ℕ) (at : ℕ) : Type 0 where
-  pub still_sound : sound_words ws ≡ true
   pub box_same : (rest_admitted bytes i (contents ws)).box ≡ (admissions_of bytes box).box
   pub numbers_join : take i numbers ++ (rest_admitted bytes i (contents ws)).numbers ≡ (admissions_of bytes box).numbers
   pub reached : Reached before out 0 (text_of (admissions_of bytes box).lines) (text_of (rest_admitted bytes i (contents ws)).lines) at
 
 -- Before the first admission all of them are still to be done.
-pub admit_start : (bytes ws numbers out : List ℕ) → sound_words ws ≡ true → Admitting bytes (contents ws) 0 ws numbers out out 0
-admit_start bytes ws numbers out e =
+pub admit_start : (bytes ws numbers out : List ℕ) → Admitting bytes (contents ws) 0 ws numbers out out 0
+admit_start bytes ws numbers out =
     record {
-      still_sound = e;
       box_same = refl;
       numbers_join = refl;
       reached = reached_start out 0 (text_of (admissions_of bytes (contents ws)).lines);
@@ -121,7 +117,6 @@ module _ (bytes : List ℕ) (i : ℕ) (c : Connection) (is : c ≡ connection_at
           ap (rest_admitted bytes (suc i)) l.stand_for in
           subst (λ k. Admitting bytes box k left (set numbers i given) before next last) s
           (record {
-            still_sound = l.still_sound;
             box_same = ap (λ r. r.box) same ∙ sym (ap (λ r. r.box) o) ∙ a.box_same;
             numbers_join =
                 ap (λ m. m ++ (rest_admitted bytes (suc i) (contents left)).numbers) (take-suc-set numbers i given h) ∙
@@ -152,6 +147,5 @@ admit_end bytes {box} {i} {ws} {numbers} {before} {out} {at} e a =
       numbers_are =
           ap (λ n. take n numbers) (sym e) ∙ sym (append-nil (take i numbers)) ∙ sym (ap (λ r. take i numbers ++ r.numbers) o) ∙
           a.numbers_join;
-      still_sound = a.still_sound;
       stand_for = sym (ap (λ r. r.box) o) ∙ a.box_same;
     }

@@ -6,6 +6,7 @@ use mathlib.Core.List.{List, [], ◌∷◌, ◌++◌, append_assoc}
 use native.Mathlib.Omega.{arith}
 use lib.ListN.{length}
 use Rattle.laws.specs.Lists.{Placed}
+use Rattle.meaning.specs.Numbers.{last_slot}
 use Rattle.meaning.specs.Box.{Box}
 use Rattle.meaning.specs.Answers.{refusal_number, stepped}
 use Rattle.meaning.specs.Calls.{offer_answer, after_offer}
@@ -18,10 +19,8 @@ use Rattle.meaning.proofs.OfferLines.{offer_counter}
 use Rattle.meaning.proofs.StepLines.{moved_counter}
 use Rattle.meaning.proofs.RestOfRun.{rest_ended, rest_goes_on, slot_falls}
 use Rattle.words.specs.Contents.{contents}
-use Rattle.words.specs.Sound.{sound_words}
 use Rattle.plan.specs.Parts.{arrivals_in, leading}
 use Rattle.plan.proofs.Stretch.{walk_starts}
-use Rattle.multiplexer.proofs.Sounds.{counter_most}
 use Rattle.lines.specs.Put.{Room, Put}
 use Rattle.whole_run.specs.declared.slots.Slot.{Slot}
 use Rattle.whole_run.specs.Parts.{RunsSlot, PassesIdle, Walked, arrivals_placed, offers_now, answer_now, lines_of_slot, rest_of_run}
@@ -44,7 +43,6 @@ offers_counter numbers (a ∷ l) box =
 
 -- Some slots are run: the words stand for the box before the next one, and the rest of the run is still to be printed.
 pub record Going (numbers bytes : List ℕ) (box : Box) (ws before out : List ℕ) (start at passed departed : ℕ) : Type 0 where
-  pub still_sound : sound_words ws ≡ true
   pub walked : Walked bytes (contents ws) passed
   pub few : departed ≤ (contents ws).counter
   pub reached :
@@ -52,11 +50,10 @@ pub record Going (numbers bytes : List ℕ) (box : Box) (ws before out : List �
       (text_of (rest_of (arrivals_placed bytes) numbers (contents ws) departed)) at
 
 -- Before the first slot the whole rest of the run is still to be printed.
-pub going_start : (numbers bytes ws out : List ℕ) (start : ℕ) → sound_words ws ≡ true → (contents ws).counter ≡ 0
+pub going_start : (numbers bytes ws out : List ℕ) (start : ℕ) → (contents ws).counter ≡ 0
     → Going numbers bytes (contents ws) ws out out start start 0 0
-going_start numbers bytes ws out start s z =
+going_start numbers bytes ws out start z =
     record {
-      still_sound = s;
       walked = walk_starts bytes ∙ ap (λ n. leading n (arrivals_in bytes)) (sym z);
       few = omega arith;
       reached = reached_start out start (text_of (rest_of_run numbers bytes (contents ws)));
@@ -69,7 +66,6 @@ pub going_later :
     → PassesIdle bytes passed (contents ws) after → Going numbers bytes box after before out start at passed departed
 going_later {numbers} {departed = departed} g p =
     record {
-      still_sound = p.still_sound;
       walked = p.walked;
       few = omega (arith, g.few, p.later);
       reached = reached_as _ (ap text_of (p.same_rest numbers departed)) g.reached;
@@ -181,9 +177,8 @@ module _ {numbers bytes : List ℕ} {box : Box} {ws before out : List ℕ} {star
               ap suc (offers_counter numbers (due_now l now) now)
 
           -- The departed packets are at most 4,000,000,001, so their count fits a word.
-          pub departed_fits : departed + more ≤ 4000000001
-          departed_fits =
-              let c = counter_most ws g.still_sound in
+          pub departed_fits : (contents ws).counter ≤ last_slot → departed + more ≤ 4000000001
+          departed_fits c =
               let m = departed_most numbers (answer_now numbers bytes now) in
               omega (arith, c, m, g.few, departed_are)
 
@@ -197,7 +192,6 @@ module _ {numbers bytes : List ℕ} {box : Box} {ws before out : List ℕ} {star
               let m = departed_most numbers (answer_now numbers bytes now) in
               let d = departed_are in
               record {
-                still_sound = s.still_sound;
                 walked = s.passes ∙ ap (λ n. leading n (arrivals_in bytes)) (sym counts);
                 few = omega (arith, counts, m, g.few, d);
                 reached =

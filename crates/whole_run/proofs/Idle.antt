@@ -146,10 +146,10 @@ module _ (bytes : List ℕ) (box : Box) (passed : ℕ) (walked : Walked bytes bo
         (sym (not_yet bytes (with_counter box slot) passed (walks slot (omega arith) (omega (arith, h))) remain)))
 
 -- Words that stay as they are pass no slot.
-pub stays : (bytes : List ℕ) (passed : ℕ) (ws : List ℕ) → sound_words ws ≡ true → Walked bytes (contents ws) passed
+pub stays : (bytes : List ℕ) (passed : ℕ) (ws : List ℕ) → Walked bytes (contents ws) passed
     → PassesIdle bytes passed (contents ws) ws
-stays bytes passed ws s w =
-    record { still_sound = s; walked = w; later = omega arith; same_rest = λ numbers departed. refl; no_more = omega arith }
+stays bytes passed ws w =
+    record { walked = w; later = omega arith; same_rest = λ numbers departed. refl; no_more = omega arith }
 
 -- The entry of that number tells the slot of the next arrival.
 next_is : (bytes : List ℕ) (passed : ℕ) (a : Arrival) → passed < length bytes / 12 → a ≡ arrival_at (words_of bytes) (3 * passed)
@@ -160,29 +160,39 @@ next_is bytes passed a h e = ap (λ (x : Arrival). x.slot) (e ∙ arrival_of_tab
 module _ (bytes : List ℕ) (passed : ℕ) (ws after : List ℕ) (s : sound_words ws ≡ true) (walked : Walked bytes (contents ws) passed)
     (sorted : Sorted bytes) (a : Arrival) (remain : passed < length bytes / 12) (read : a ≡ arrival_at (words_of bytes) (3 * passed))
   where
-    -- Setting the counter of an empty box to the slot of the next arrival passes the idle slots before it.
-    pub passes_idle : (contents ws).counter < a.slot → eqb (length (packets (contents ws))) 0 ≡ true
-        → Become ws after (with_counter (contents ws) a.slot)
-        → PassesIdle bytes passed (contents ws) after
-    unfolding with_counter
-    passes_idle above none become =
-        let box = contents ws in
-        let slot = a.slot in
-        let n = next_is bytes passed a remain read in
-        let e = empty_box box (eqb-true _ _ none) in
-        let distance : box.counter + (slot - box.counter) ≡ slot = omega (arith, above) in
-        let p : Passes (arrivals_placed bytes) box (with_counter box slot) =
-        subst (λ k. Passes (arrivals_placed bytes) box (with_counter box k)) distance
-        (passes bytes box passed walked remain sorted (sound_contents ws s) e (slot - box.counter) (omega (arith, n, distance))) in
-        let is = sym become.stands_for in
-        let l = leaves ws after (with_counter box slot) s p.still_sound become in
-        record {
-          still_sound = l.still_sound;
-          walked =
-              walks bytes box passed walked remain slot (omega (arith, above)) (omega (arith, n)) ∙
-              ap (λ (b : Box). leading b.counter (arrivals_in bytes)) is;
-          later = subst (λ (b : Box). box.counter ≤ b.counter) is (omega (arith, above));
-          same_rest =
-              λ numbers departed. p.same_rest numbers departed ∙ ap (λ (b : Box). rest_of (arrivals_placed bytes) numbers b departed) is;
-          no_more = subst (λ (b : Box). potential (arrivals_placed bytes) b ≤ potential (arrivals_placed bytes) box) is p.no_more;
-        }
+    -- setting the counter of an empty box to that slot
+    module _ (above : (contents ws).counter < a.slot) (none : eqb (length (packets (contents ws))) 0 ≡ true)
+        (become : Become ws after (with_counter (contents ws) a.slot))
+      where
+        -- The slots before it are passed.
+        passed_to : Passes (arrivals_placed bytes) (contents ws) (with_counter (contents ws) a.slot)
+        passed_to =
+            let box = contents ws in
+            let n = next_is bytes passed a remain read in
+            let e = empty_box box (eqb-true _ _ none) in
+            let distance : box.counter + (a.slot - box.counter) ≡ a.slot = omega (arith, above) in
+            subst (λ k. Passes (arrivals_placed bytes) box (with_counter box k)) distance
+            (passes bytes box passed walked remain sorted (sound_contents ws s) e (a.slot - box.counter) (omega (arith, n, distance)))
+
+        -- The words stay sound.
+        pub idle_stays_sound : sound_words after ≡ true
+        idle_stays_sound = (leaves ws after (with_counter (contents ws) a.slot) s passed_to.still_sound become).still_sound
+
+        -- The rest of the run is that from there on.
+        pub passes_idle : PassesIdle bytes passed (contents ws) after
+        unfolding with_counter
+        passes_idle =
+            let box = contents ws in
+            let slot = a.slot in
+            let n = next_is bytes passed a remain read in
+            let p = passed_to in
+            let is = sym become.stands_for in
+            record {
+              walked =
+                  walks bytes box passed walked remain slot (omega (arith, above)) (omega (arith, n)) ∙
+                  ap (λ (b : Box). leading b.counter (arrivals_in bytes)) is;
+              later = subst (λ (b : Box). box.counter ≤ b.counter) is (omega (arith, above));
+              same_rest =
+                  λ numbers departed. p.same_rest numbers departed ∙ ap (λ (b : Box). rest_of (arrivals_placed bytes) numbers b departed) is;
+              no_more = subst (λ (b : Box). potential (arrivals_placed bytes) b ≤ potential (arrivals_placed bytes) box) is p.no_more;
+            }

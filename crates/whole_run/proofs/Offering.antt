@@ -1,7 +1,6 @@
 -- The offers of a slot, one after another: what is left of `offer_all` at each of them.
 use Prim.Native.Nat.{ℕ, suc, ◌+◌, ◌*◌, ◌/◌, ◌<◌}
 use mathlib.Core.Path.{◌≡◌, refl, sym, ap, ◌∙◌, subst}
-use mathlib.Core.Bool.{true}
 use mathlib.Core.List.{List, [], ◌∷◌, ◌++◌}
 use native.Mathlib.Omega.{arith}
 use lib.ListN.{length, get_or, drop}
@@ -15,7 +14,6 @@ use Rattle.meaning.specs.Plan.{words_of, arrival_at}
 use Rattle.meaning.specs.Run.{AfterOffers, number_of, offer_all}
 use Rattle.meaning.specs.Lines.{line_text, text_of}
 use Rattle.words.specs.Contents.{contents}
-use Rattle.words.specs.Sound.{sound_words}
 use Rattle.plan.specs.Parts.{arrivals_in}
 use Rattle.plan.specs.Entries.{get_or_table}
 use Rattle.plan.specs.StretchPlaces.{length_arrivals_in}
@@ -33,20 +31,18 @@ rest_offered numbers due from i box = offer_all numbers (placed_from (suc from +
 
 -- The first i offers are done.
 pub record Offering (numbers due : List ℕ) (from : ℕ) (box : Box) (i : ℕ) (ws before out : List ℕ) (start at : ℕ) : Type 0 where
-  pub still_sound : sound_words ws ≡ true
   pub box_same : (rest_offered numbers due from i (contents ws)).box ≡ (offers_of numbers due from box).box
   pub reached :
       Reached before out start (text_of (offers_of numbers due from box).lines)
       (text_of (rest_offered numbers due from i (contents ws)).lines) at
 
 -- At the start none is done.
-pub offer_start : (numbers due : List ℕ) (from : ℕ) (ws out : List ℕ) (start : ℕ) → sound_words ws ≡ true
+pub offer_start : (numbers due : List ℕ) (from : ℕ) (ws out : List ℕ) (start : ℕ)
     → Offering numbers due from (contents ws) 0 ws out out start start
-offer_start numbers due from ws out start e =
+offer_start numbers due from ws out start =
     let z : suc from ≡ suc from + 0 = omega arith in
     let same = ap (λ n. offer_all numbers (placed_from n (arrivals_in due)) (contents ws)) z in
     record {
-      still_sound = e;
       box_same = sym (ap (λ r. r.box) same);
       reached =
           reached_as _ (ap (λ r. text_of r.lines) same)
@@ -137,7 +133,6 @@ module _ (numbers due : List ℕ) (from i : ℕ) (a : Arrival) (is : a ≡ arriv
           ap (rest_offered numbers due from (suc i)) l.stand_for in
           subst (λ k. Offering numbers due from box k left before next start last) s
           (record {
-            still_sound = l.still_sound;
             box_same = ap (λ r. r.box) same ∙ sym (ap (λ r. r.box) (opens (contents ws))) ∙ o.box_same;
             reached =
                 reached_as _ (sym (ap (λ r. text_of r.lines) same))
@@ -158,6 +153,5 @@ offer_end numbers due from {box} {i} {ws} {before} {out} {start} {at} e o =
     ap (λ m. offer_all numbers (placed_from (suc from + i) m) (contents ws)) none in
     record {
       text = reached_end (reached_as [] (ap (λ x. text_of x.lines) r ∙ text_none) o.reached);
-      still_sound = o.still_sound;
       stand_for = sym (ap (λ x. x.box) r) ∙ o.box_same;
     }

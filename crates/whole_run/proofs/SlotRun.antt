@@ -112,6 +112,5 @@ module _ (numbers bytes : List ℕ) (box : Box) (passed : ℕ) (walked : Walked 
                     (then offered (subst (λ (x : Result Stepped Refusal). Put printed last at (text_of (departures numbers x)) next) now_is p) both);
                 passes = due_passes;
                 answer_is = now_is;
-                still_sound = l.still_sound;
                 stand_for = l.stand_for ∙ ap (λ b. after_step b (step_answer b)) same;
               }

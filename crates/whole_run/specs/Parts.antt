@@ -12,7 +12,6 @@ use Rattle.meaning.specs.Run.{AfterAdmissions, AfterOffers, admit_all, offer_all
 use Rattle.meaning.specs.Lines.{text_of}
 use Rattle.meaning.specs.Rest.{potential, due_now, rest_of}
 use Rattle.words.specs.Contents.{contents}
-use Rattle.words.specs.Sound.{sound_words}
 use Rattle.plan.specs.Parts.{arrivals_in, leading}
 use Rattle.lines.specs.Put.{Put}
 use Rattle.whole_run.specs.declared.slots.Slot.{Slot}
@@ -31,7 +30,6 @@ admissions_of bytes box = admit_all 1 (connections_in bytes) box
 pub record Admits (after : AfterAdmissions) (count : ℕ) (ws numbers before out : List ℕ) (at : ℕ) : Type 0 where
   pub text : Put before out 0 (text_of after.lines) at
   pub numbers_are : take count numbers ≡ after.numbers
-  pub still_sound : sound_words ws ≡ true
   pub stand_for : contents ws ≡ after.box
 
 -- The offers of a stretch; `from` arrivals of the file come before it.
@@ -41,7 +39,6 @@ offers_of numbers due from box = offer_all numbers (placed_from (suc from) (arri
 -- These offers are printed from `start` on, and the words stand for the box after them.
 pub record Offers (after : AfterOffers) (ws before out : List ℕ) (start at : ℕ) : Type 0 where
   pub text : Put before out start (text_of after.lines) at
-  pub still_sound : sound_words ws ≡ true
   pub stand_for : contents ws ≡ after.box
 
 -- The arrivals of a table with their places in the file.
@@ -79,12 +76,10 @@ pub record RunsSlot (r : Slot) (numbers bytes : List ℕ) (box : Box) (ws before
   pub text : Put before out start (text_of (lines_of_slot numbers bytes box)) r.at
   pub passes : r.passed ≡ leading (suc box.counter) (arrivals_in bytes)
   pub answer_is : r.answer ≡ answer_now numbers bytes box
-  pub still_sound : sound_words ws ≡ true
   pub stand_for : contents ws ≡ box_after_slot numbers bytes box
 
 -- Idle slots are passed, perhaps none: the words stand for a box before a later slot, from which the rest of the run has the same lines.
 pub record PassesIdle (bytes : List ℕ) (passed : ℕ) (box : Box) (ws : List ℕ) : Type 0 where
-  pub still_sound : sound_words ws ≡ true
   pub walked : Walked bytes (contents ws) passed
   pub later : box.counter ≤ (contents ws).counter
   pub same_rest : (numbers : List ℕ) (departed : ℕ)

@@ -1,7 +1,6 @@
 // "admits in file order".
-ghost use Rattle.std.specs.Prelude.{◌+◌, ◌/◌, ◌≤◌, ◌≡◌, true, length};
+ghost use Rattle.std.specs.Prelude.{◌+◌, ◌/◌, ◌≤◌, length};
 ghost use Rattle.words.specs.Contents.{contents};
-ghost use Rattle.words.specs.Sound.{sound_words};
 ghost use Rattle.lines.specs.Put.{Room};
 ghost use Rattle.whole_run.specs.Parts.{admissions_of, Admits};
 ghost use Rattle.meaning.specs.Lines.{text_of};
@@ -9,21 +8,21 @@ ghost use Rattle.meaning.specs.Lines.{text_of};
 use answers::tell_admitted;
 use lines::put;
 use meaning::Line;
-use multiplexer::admitting::admit_sound;
+use multiplexer::sound::Sound;
 use plan::tables::connection;
 
 // The lines of the admissions, and the number of each place of the file, 0 for one that was refused.
-pub fn admit_all(ws: &mut [u32], table: &[u8], numbers: &mut [u32], out: &mut [u8]) -> usize
-    requires sound { (sound_words ws.old ≡ true) × (length table.now / 16 ≤ length numbers.old) × (length numbers.old ≤ 32) }
-    requires room { Room out.old 0 (text_of (admissions_of table.now (contents ws.old)).lines) }
-    ensures { Admits (admissions_of table.now (contents ws.old)) (length table.now / 16)
-        ws.new numbers.new out.old out.new result }
+pub fn admit_all(state: &mut Sound<'_>, table: &[u8], numbers: &mut [u32], out: &mut [u8]) -> usize
+    requires most { (length table.now / 16 ≤ length numbers.old) × (length numbers.old ≤ 32) }
+    requires room { Room out.old 0 (text_of (admissions_of table.now (contents state.old.words.now)).lines) }
+    ensures { Admits (admissions_of table.now (contents state.old.words.now)) (length table.now / 16)
+        state.new.words.now numbers.new out.old out.new result }
 {
     let count = table.len() / 16;
     let mut at: usize = 0;
     for i in 0..count {
         let c = connection(table, i);
-        let [answer, number, t] = tell_admitted(admit_sound(ws, c));
+        let [answer, number, t] = tell_admitted(state.admit(c));
         let place = (i + 1) as u32;
         at = put(out, at, Line::Admit { place, answer, t });
         numbers[i] = number;

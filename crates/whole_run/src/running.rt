@@ -1,11 +1,10 @@
 // A whole run: the plan is read, a box opened, its connections admitted, and slot after slot offered and stepped.
-ghost use Rattle.std.specs.Prelude.{◌≤◌, ◌≡◌, true, length};
+ghost use Rattle.std.specs.Prelude.{◌≤◌, ◌≡◌, length};
 ghost use Rattle.meaning.specs.Plan.{words_of, contents_of, factor_at, table};
 ghost use Rattle.meaning.specs.Calls.{new_box};
 ghost use Rattle.meaning.specs.Run.{open_run};
 ghost use Rattle.meaning.specs.Lines.{run_text, text_most, text_of};
 ghost use Rattle.words.specs.Contents.{contents};
-ghost use Rattle.words.specs.Sound.{sound_words};
 ghost use Rattle.plan.specs.Readable.{Readable};
 ghost use Rattle.lines.specs.Put.{Room, Put};
 ghost use Rattle.whole_run.specs.Printing.{RunPromise};
@@ -15,6 +14,7 @@ use super::rooms::box_room;
 use super::slots::run_slots;
 use lines::put;
 use meaning::{Header, Line, Refusal};
+use multiplexer::sound::Sound;
 use plan::reading::read;
 use plan::tables::{arrivals, classes, connections, factor};
 use tables::opening::open;
@@ -29,17 +29,16 @@ fn copy_factors(classes: &[u8], factors: &mut [u32])
 }
 
 // The run of a plan in a box that is open.
-fn run_open(ws: &mut [u32], plan: &[u8], h: Header, out: &mut [u8]) -> usize
-    requires sound { (sound_words ws.old ≡ true) × (contents ws.old ≡ new_box (contents_of (words_of plan.now) h).settings) ×
-        Readable plan.now h }
+fn run_open(state: &mut Sound<'_>, plan: &[u8], h: Header, out: &mut [u8]) -> usize
+    requires opened { (contents state.old.words.now ≡ new_box (contents_of (words_of plan.now) h).settings) × Readable plan.now h }
     requires room { Room out.old 0 (text_of (open_run (contents_of (words_of plan.now) h))) }
     ensures { Put out.old out.new 0 (text_of (open_run (contents_of (words_of plan.now) h))) result }
 {
     let mut numbers = [0u32; 32];
     let asked = connections(plan, h);
-    let at = admit_all(ws, asked, &mut numbers, out);
+    let at = admit_all(state, asked, &mut numbers, out);
     let count = asked.len() / 16;
-    run_slots(ws, arrivals(plan, h), &numbers[..count], out, at)
+    run_slots(state, arrivals(plan, h), &numbers[..count], out, at)
 }
 
 // "opens a box", or prints only `REFUSED` and the number.
@@ -53,7 +52,7 @@ fn run_read(plan: &[u8], h: Header, out: &mut [u8]) -> usize
     copy_factors(table, &mut factors);
     let count = table.len() / 4;
     match open(&mut ws, h.interval, h.cycle, &factors[..count]) {
-        Ok(()) => run_open(&mut ws, plan, h, out),
+        Ok(()) => run_open(&mut Sound { words: &mut ws }, plan, h, out),
         Err(why) => put(out, 0, Line::Refused(u32::from(why))),
     }
 }

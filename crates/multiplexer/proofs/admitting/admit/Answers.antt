@@ -5,7 +5,9 @@ use Rattle.meaning.specs.Calls.{admission_answer, after_admission}
 use Rattle.words.specs.Contents.{contents}
 use Rattle.words.specs.Sound.{sound_words}
 use Rattle.multiplexer.specs.Promised.{admission, words_admitted}
-use Rattle.multiplexer.proofs.Sounds.{unchanged, promised}
+use Rattle.std.proofs.Common.{rules}
+use Rattle.multiplexer.proofs.Sounds.{unchanged}
+use Rattle.multiplexer.proofs.SameCalls.{admit_same}
 use Rattle.multiplexer.proofs.admitting.admit.Goals as goal
 
 pub returns-then-not-is_sound : goal.returns-then-not-is_sound
@@ -18,13 +20,8 @@ returns-then-not-is_sound c =
     (rw e refl, unchanged ws (after_admission (contents ws) a (admission_answer (contents ws) a)) e)
 
 pub returns : goal.returns
-unfolding admission words_admitted
 returns c =
-    let i = c.is_sound in
-    let ws = c.args.ws.now in
     let a : Connection = record { class = c.args.class; longest = c.args.longest; burst = c.args.burst; period = c.args.period } in
-    let m = c.admit_sound in
-    let e : sound_words ws ≡ true = sym i.ensures ∙ c.if-not-is_sound.false in (
-      m.ensures.0 ∙ rw e refl,
-      promised ws m.new.ws (after_admission (contents ws) a (admission_answer (contents ws) a)) e m.ensures.1,
-    )
+    let e : sound_words c.args.ws.now ≡ true = sym c.is_sound.ensures ∙ c.if-not-is_sound.false in
+    let p = admit_same c.args.ws.now c.admit.new.self.words.now e a c.admit.result c.admit.ensures.promise in
+    search (rules, p)

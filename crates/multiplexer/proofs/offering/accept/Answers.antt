@@ -1,12 +1,12 @@
 use mathlib.Core.Path.{◌≡◌, ap, subst, ◌∙◌}
 use native.Mathlib.Numerals.{add-one}
-use Prim.Native.Nat.{suc}
+use Prim.Native.Nat.{◌+◌, suc}
 use Rattle.meaning.specs.Envelope.{charged as charged_is}
 use Rattle.meaning.specs.Queues.{join_tail}
 use Rattle.words.specs.Contents.{contents}
 use Rattle.words.specs.Changes.{Become}
 use Rattle.store.specs.StoreChanges.{with_queues}
-use Rattle.multiplexer.proofs.Offers.{packet_is, row_ready, class_within, join_ready, count_ready, accepted_becomes}
+use Rattle.multiplexer.proofs.Offers.{packet_is, row_ready, class_within, join_ready, count_ready, accepted_becomes, taken}
 use Rattle.multiplexer.proofs.offering.accept.Goals as goal
 
 pub tag_of-tag-requires : goal.tag_of-tag-requires
@@ -71,8 +71,7 @@ returns c =
     (with_queues (contents wrote.new.ws) (join_tail tag.result p (contents wrote.new.ws).queues)))
     (packet_is ws n units serial.result slot.result serial.ensures slot.ensures) joined.ensures in
     let e : a ≡ charged_is row.asked row.allowance (contents ws).counter =
-    c.charge.ensures ∙ ap (charged_is row.asked row.allowance) slot.ensures in (
-      add-one serial.result ∙ ap suc serial.ensures,
-      accepted_becomes ws n units row ok a tag.result wrote.new.ws wrote.ensures joined.new.ws joins e tag.ensures.0
-          tag.ensures.1 counted.new.ws counted.ensures,
-    )
+    c.charge.ensures ∙ ap (charged_is row.asked row.allowance) slot.ensures in
+    taken ws n units ok.sound_words_lem row ok counted.new.ws (serial.result + 1) (add-one serial.result ∙ ap suc serial.ensures)
+    (accepted_becomes ws n units row ok a tag.result wrote.new.ws wrote.ensures joined.new.ws joins e tag.ensures.0
+    tag.ensures.1 counted.new.ws counted.ensures)

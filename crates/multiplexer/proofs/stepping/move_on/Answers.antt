@@ -16,8 +16,8 @@ returns c =
     let l = c.load_link in
     let u = c.send_unit-answer in
     let w = c.raise_counter in
-    let n = c.counter_of-departure in (
-      u.ensures.0 ∙ ap₂ sent_answer (add-one n.result ∙ ap suc n.ensures.0)
+    let n = c.counter-departure in (
+      u.ensures.0 ∙ ap₂ sent_answer (add-one n.result ∙ ap suc n.ensures)
           (link_same c.args.ws.now l.new.ws u.new.ws l.ensures u.ensures.1),
       whole_step c.args.ws.now l.new.ws u.new.ws l.ensures u.ensures.1 w.new.ws w.ensures,
     )

@@ -12,14 +12,11 @@ use Rattle.std.proofs.Common.{ℕ, Result}
 use Rattle.meaning.specs.declared.Refusal.{Refusal}
 
 pub loop-i-init : goal.loop-i-init
-loop-i-init c = offer_start _ _ _ _ _ _ c.requires.sound.0
-
-pub offer_sound-requires : goal.offer_sound-requires
-offer_sound-requires c = c.loop-i.invariant.still_sound
+loop-i-init c = offer_start _ _ _ _ _ _
 
 pub overflow_cast-place : goal.overflow_cast-place
 overflow_cast-place c =
-    omega (arith, c.loop-i-test.true, c.requires.sound.1)
+    omega (arith, c.loop-i-test.true, c.requires.most)
 
 pub put-at-requires : goal.put-at-requires
 put-at-requires c =
@@ -27,9 +24,9 @@ put-at-requires c =
     let below = c.loop-i-test.true in
     let read = c.arrival-a in
     let answer : c.tell_offered.result ≡
-    told (offered (offer_answer (contents c.loop-i.ws) (number_of c.args.numbers.now c.arrival-a.result.place) c.arrival-a.result.units)) =
+    told (offered (offer_answer (contents c.loop-i.state.words.now) (number_of c.args.numbers.now c.arrival-a.result.place) c.arrival-a.result.units)) =
     c.tell_offered.ensures ∙ ap (λ (a : Result ℕ Refusal). told (offered a))
-    (c.offer_sound.ensures.0 ∙ ap (λ (n : ℕ). offer_answer (contents c.loop-i.ws) n c.arrival-a.result.units) c.number_of.ensures) in
+    (c.offer.ensures.promise.0 ∙ ap (λ (n : ℕ). offer_answer (contents c.loop-i.state.words.now) n c.arrival-a.result.units) c.number_of.ensures) in
     offer_room c.args.numbers.now c.args.due.now c.args.from loop.i _ read.ensures below c.requires.room loop.invariant
     _ _ _ (omega arith) (told_number _ answer) (told_field _ answer 0)
 
@@ -40,17 +37,17 @@ loop-i-preserved c =
     let below = c.loop-i-test.true in
     let read = c.arrival-a in
     let number = c.number_of in
-    let offer = c.offer_sound in
+    let offer = c.offer in
     let answer : c.tell_offered.result ≡
-    told (offered (offer_answer (contents c.loop-i.ws) (number_of c.args.numbers.now c.arrival-a.result.place) c.arrival-a.result.units)) =
+    told (offered (offer_answer (contents c.loop-i.state.words.now) (number_of c.args.numbers.now c.arrival-a.result.place) c.arrival-a.result.units)) =
     c.tell_offered.ensures ∙ ap (λ (a : Result ℕ Refusal). told (offered a))
-    (c.offer_sound.ensures.0 ∙ ap (λ (n : ℕ). offer_answer (contents c.loop-i.ws) n c.arrival-a.result.units) c.number_of.ensures) in
+    (c.offer.ensures.promise.0 ∙ ap (λ (n : ℕ). offer_answer (contents c.loop-i.state.words.now) n c.arrival-a.result.units) c.number_of.ensures) in
     let line = c.put-at in
-    let box = contents loop.ws in
+    let box = contents loop.state.words.now in
     let units = read.result.units in
     let left =
-    subst (λ (n : ℕ). Leaves loop.ws offer.new.ws (after_offer box n units (offer_answer box n units)))
-    number.ensures offer.ensures.1 in
+    subst (λ (n : ℕ). Leaves loop.state.words.now offer.new.self.words.now (after_offer box n units (offer_answer box n units)))
+    number.ensures offer.ensures.promise.1 in
     offer_on c.args.numbers.now c.args.due.now c.args.from loop.i _ read.ensures below c.requires.room i
     _ _ _ (omega arith) (told_number _ answer) (told_field _ answer 0) _ left line.ensures
 

@@ -8,47 +8,46 @@ use Rattle.whole_run.proofs.running.run_open.Goals as goal
 
 pub admit_all-at-requires : goal.admit_all-at-requires
 admit_all-at-requires c =
-    let p = c.requires.sound in
+    let p = c.requires.opened in
     let conns = c.connections-asked in
     record {
-      sound = (p.0, connections_few _ _ p.2 _ conns.ensures, omega arith);
-      room = admissions_room _ _ p.2 c.args.ws.now p.1
+      most = (connections_few _ _ p.1 _ conns.ensures, omega arith);
+      room = admissions_room _ _ p.1 c.args.state.now.words.now p.0
           conns.result.now conns.ensures c.args.out.now c.requires.room;
     }
 
 pub slice_bounds-numbers-end : goal.slice_bounds-numbers-end
 slice_bounds-numbers-end c =
-    let few = connections_few _ _ c.requires.sound.2 _ c.connections-asked.ensures in
+    let few = connections_few _ _ c.requires.opened.1 _ c.connections-asked.ensures in
     omega (arith, few, c.admit_all-at.auto.numbers)
 
 pub slice_bounds-run_slots-end : goal.slice_bounds-run_slots-end
 slice_bounds-run_slots-end c =
-    let few = connections_few _ _ c.requires.sound.2 _ c.connections-asked.ensures in
+    let few = connections_few _ _ c.requires.opened.1 _ c.connections-asked.ensures in
     sym (length-take-le _ c.admit_all-at.new.numbers (omega (arith, few, c.admit_all-at.auto.numbers)))
 
 pub run_slots-requires : goal.run_slots-requires
 run_slots-requires c =
-    let p = c.requires.sound in
+    let p = c.requires.opened in
     let conns = c.connections-asked in
     let admitted = c.admit_all-at in
-    let few = connections_few _ _ p.2 _ conns.ensures in
+    let few = connections_few _ _ p.1 _ conns.ensures in
     let long = length-take-le (length conns.result.now / 16) admitted.new.numbers (omega (arith, few, admitted.auto.numbers)) in
     record {
-      sound = (
-        admitted.ensures.still_sound,
-        counter_zero _ _ p.2 c.args.ws.now p.1 conns.result.now conns.ensures
+      given = (
+        counter_zero _ _ p.1 c.args.state.now.words.now p.0 conns.result.now conns.ensures
             c.args.out.now c.requires.room admitted.ensures,
-        sorted _ _ p.2 _ c.arrivals.ensures,
+        sorted _ _ p.1 _ c.arrivals.ensures,
         omega
             (arith, few, long),
       );
-      room = rest_room _ _ p.2 c.args.ws.now p.1 conns.result.now conns.ensures c.args.out.now c.requires.room
+      room = rest_room _ _ p.1 c.args.state.now.words.now p.0 conns.result.now conns.ensures c.args.out.now c.requires.room
           admitted.ensures _ c.arrivals.ensures;
     }
 
 pub returns : goal.returns
 returns c =
-    let p = c.requires.sound in
+    let p = c.requires.opened in
     let conns = c.connections-asked in
-    rest_put _ _ p.2 c.args.ws.now p.1 conns.result.now conns.ensures c.args.out.now c.requires.room
+    rest_put _ _ p.1 c.args.state.now.words.now p.0 conns.result.now conns.ensures c.args.out.now c.requires.room
     c.admit_all-at.ensures _ c.arrivals.ensures c.run_slots.ensures

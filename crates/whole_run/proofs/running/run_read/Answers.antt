@@ -28,14 +28,19 @@ run_open-requires c =
     run_opened c.args.plan.now c.args.h c.requires.0 c.classes-table.result.now c.copy_factors.new.factors c.box_room-ws.result
     c.classes-table.ensures c.copy_factors.ensures c.box_room-ws.ensures.size c.«open».ensures done in
     record {
-      sound = (
-        opens_sound c.args.plan.now c.args.h c.requires.0 c.classes-table.result.now c.copy_factors.new.factors c.box_room-ws.result
-            c.classes-table.ensures c.copy_factors.ensures c.box_room-ws.ensures.size c.«open».ensures done,
+      opened = (
         opens_new c.args.plan.now c.args.h c.requires.0 c.classes-table.result.now c.copy_factors.new.factors c.box_room-ws.result
             c.classes-table.ensures c.copy_factors.ensures c.box_room-ws.ensures.size c.«open».ensures done,
         c.requires.0,
       );
       room = subst (Room c.args.out.now 0) text c.requires.1;
+    }
+
+pub invariant_of-run_open : goal.invariant_of-run_open
+invariant_of-run_open c =
+    record {
+      sound = opens_sound c.args.plan.now c.args.h c.requires.0 c.classes-table.result.now c.copy_factors.new.factors c.box_room-ws.result
+          c.classes-table.ensures c.copy_factors.ensures c.box_room-ws.ensures.size c.«open».ensures c.in-Ok.is;
     }
 
 pub returns-in-Ok : goal.returns-in-Ok

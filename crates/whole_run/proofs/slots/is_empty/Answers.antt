@@ -1,13 +1,6 @@
 use mathlib.Core.Path.{sym, ◌∙◌}
-use Rattle.words.proofs.Counts.{sound_fitting}
 use Rattle.whole_run.proofs.Passing.{carrying, link_free}
 use Rattle.whole_run.proofs.slots.is_empty.Goals as goal
-
-pub read_link-requires : goal.read_link-requires
-read_link-requires c = sound_fitting _ c.requires
-
-pub waiting_count-requires : goal.waiting_count-requires
-waiting_count-requires c = sound_fitting _ c.requires
 
 pub returns-in-Free : goal.returns-in-Free
 returns-in-Free c = link_free _ _ (sym c.read_link.ensures ∙ c.in-Free.is) c.waiting_count.ensures

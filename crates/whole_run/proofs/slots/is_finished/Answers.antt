@@ -4,8 +4,8 @@ use Rattle.whole_run.proofs.Passing.{not_yet, all_passed}
 use Rattle.whole_run.proofs.slots.is_finished.Goals as goal
 
 pub returns-then-passed-table : goal.returns-then-passed-table
-returns-then-passed-table c = not_yet _ _ _ c.requires.1 c.if-passed-table.true
+returns-then-passed-table c = not_yet _ _ _ c.requires c.if-passed-table.true
 
 pub returns : goal.returns
 returns c =
-    c.is_empty.ensures ∙ all_passed _ _ _ c.requires.1 (omega (arith, c.if-passed-table.false))
+    c.is_empty.ensures ∙ all_passed _ _ _ c.requires (omega (arith, c.if-passed-table.false))
