@@ -1,15 +1,15 @@
 -- An admission in words: what sound words give the search, and the answers.
 use Prim.Native.Nat.{ℕ, suc, ◌+◌, ◌%◌, ◌≤◌, ◌<◌}
 use mathlib.Core.Path.{◌≡◌, refl, sym, ap, ap₂, ◌∙◌, subst}
-use mathlib.Core.Bool.{true, false}
+use mathlib.Core.Bool.{true, ◌&&◌}
 use mathlib.Core.List.{List, [], ◌∷◌, ◌++◌}
 use native.Mathlib.Omega.{arith}
 use lib.ListN.{length, get_or, length-map, get_or-map}
 use lib.Dec.{eqb}
 use borrow.Author.Tests.{le-leb, lt-leb}
-use Rattle.laws.specs.Tests.{within, every_at}
+use Rattle.laws.specs.Tests.{within, within_facts, every_at}
 use Rattle.laws.specs.Lists.{get_or_member}
-use Rattle.laws.specs.Search.{Search, holds}
+use Rattle.laws.specs.Search.{fails_at, holds}
 use Rattle.laws.specs.Series.{length_series, get_or_series}
 use Rattle.meaning.specs.declared.Refusal.{Refusal}
 use Rattle.meaning.specs.declared.Connection.{Connection}
@@ -18,7 +18,7 @@ use Rattle.meaning.specs.Numbers.{most_connections}
 use Rattle.meaning.specs.Envelope.{full}
 use Rattle.meaning.specs.Admission.{rate, rate_holds, finite_search}
 use Rattle.meaning.specs.declared.Standing.{Standing}
-use Rattle.meaning.specs.Box.{Box, connections, no_connection, sound}
+use Rattle.meaning.specs.Box.{Box, connections, no_connection}
 use Rattle.meaning.specs.Calls.{with_newcomer, search_answer, with_standing, admission_answer, after_admission}
 use Rattle.meaning.proofs.KeptByAdmission.{admission_keeps_sound}
 use Rattle.meaning.specs.declared.Standing.{Standing}
@@ -27,6 +27,7 @@ use Rattle.words.specs.Contents.{asked_at, contents, settings_at, standing_at, s
 use Rattle.words.specs.Sound.{sound_words}
 use Rattle.words.specs.Changes.{Become}
 use Rattle.words.proofs.Counts.{sound_fitting}
+use Rattle.words.proofs.Readings.{standing_word}
 use Rattle.words.proofs.TestedSound.{sound_contents}
 use Rattle.admission.specs.Asking.{Ready, with_asked}
 use Rattle.multiplexer.specs.Promised.{Leaves}
@@ -71,76 +72,30 @@ pub settings_are : (ws : List ℕ) → settings_at ws ≡ (contents ws).settings
 unfolding contents
 settings_are ws = refl
 
--- The numbers of a connection, tested one after another.
-module _ (set : Settings) (c : Connection) where
-  -- A newcomer whose class number is off range is not allowed.
-  pub class_off : within 1 c.class (class_count set) ≡ false → false ≡ connection_allowed set c
-  unfolding connection_allowed class_allowed
-  class_off e = rw e refl
+-- The numbers of a connection are allowed where each is in its range and T divides M.
+pub allowed_is : (set : Settings) (c : Connection) → connection_allowed set c ≡ (within 1 c.class (class_count set) && within 1 c.longest 64 && within 1 c.burst 64 && (within 1 c.period set.cycle && eqb (set.cycle % c.period) 0))
+unfolding connection_allowed class_allowed longest_allowed burst_allowed period_allowed
+allowed_is set c = refl
 
-  -- The class is in range, s is not.
-  pub longest_off : within 1 c.class (class_count set) ≡ true → within 1 c.longest 64 ≡ false → false ≡ connection_allowed set c
-  unfolding connection_allowed class_allowed longest_allowed
-  longest_off e f = rw (e, f) refl
+-- What the test of a connection's numbers goes by.
+pub ruleset numbers = (sound_fitting, within_facts, allowed_is)
 
-  -- A newcomer whose b is off range is not allowed.
-  pub burst_off : within 1 c.class (class_count set) ≡ true → within 1 c.longest 64 ≡ true → within 1 c.burst 64 ≡ false
-      → false ≡ connection_allowed set c
-  unfolding connection_allowed class_allowed longest_allowed burst_allowed
-  burst_off e f g = rw (e, f, g) refl
-
-  -- A newcomer whose T is off range is not allowed.
-  pub period_off : within 1 c.class (class_count set) ≡ true → within 1 c.longest 64 ≡ true → within 1 c.burst 64 ≡ true
-      → within 1 c.period set.cycle ≡ false → false ≡ connection_allowed set c
-  unfolding connection_allowed class_allowed longest_allowed burst_allowed period_allowed
-  period_off e f g h = rw (e, f, g, h) refl
-
-  -- So is T: what is left to ask is whether it divides M.
-  pub divides : within 1 c.class (class_count set) ≡ true → within 1 c.longest 64 ≡ true → within 1 c.burst 64 ≡ true
-      → within 1 c.period set.cycle ≡ true → eqb (set.cycle % c.period) 0 ≡ connection_allowed set c
-  unfolding connection_allowed class_allowed longest_allowed burst_allowed period_allowed
-  divides e f g h = rw (e, f, g, h) refl
-
--- The answers of an admission on sound contents, in their order.
-module _ (b : Box) (c : Connection) (s : sound b ≡ true) where
-  -- Where the newcomer is not allowed, the answer is 3.
-  pub answer_range : connection_allowed b.settings c ≡ false → Err Refusal.ConnectionOffRange ≡ admission_answer b c
-  unfolding admission_answer
-  answer_range e = rw (s, e) refl
-
-  -- Where the newcomer is allowed and 32 connections stand, the answer is 4.
-  pub answer_full : connection_allowed b.settings c ≡ true → most_connections ≤ length b.standing
-      → Err Refusal.TableFull ≡ admission_answer b c
-  unfolding admission_answer
-  answer_full e f = rw (s, e, le-leb most_connections (length b.standing) f) refl
-
-  -- Where there is room and the rate exceeds M, the answer is 5.
-  pub answer_rate : connection_allowed b.settings c ≡ true → length b.standing < most_connections
-      → b.settings.cycle < rate b.settings (with_newcomer b c) → Err Refusal.RateExceeded ≡ admission_answer b c
-  unfolding admission_answer rate_holds
-  answer_rate e f g =
-      let rate_is = rate b.settings (with_newcomer b c) in
-      rw (s, e, lt-leb most_connections (length b.standing) f, lt-leb rate_is b.settings.cycle g) refl
-
-  -- 6, or the number that the connection is given.
-  pub answer_search : (found : Search) → found ≡ finite_search b.settings (with_newcomer b c)
-      → connection_allowed b.settings c ≡ true → length b.standing < most_connections
-      → rate b.settings (with_newcomer b c) ≤ b.settings.cycle → search_answer (suc (length b.standing)) found ≡ admission_answer b c
-  unfolding admission_answer rate_holds
-  answer_search found q e f g =
-      rw (s, e, lt-leb most_connections (length b.standing) f, le-leb (rate b.settings (with_newcomer b c)) b.settings.cycle g)
-      (ap (search_answer (suc (length b.standing))) q)
-
--- What an answer leaves.
+-- A connection that is taken: the answer is its number, and the words are those of the box with it.
 module _ (ws : List ℕ) (c : Connection) (h : sound_words ws ≡ true) where
   -- The answer to the newcomer.
   abbrev answer : Result ℕ Refusal
   answer = admission_answer (contents ws) c
 
-  -- A refusal leaves the words as they were.
-  pub refused : (r : Result ℕ Refusal) → r ≡ answer → after_admission (contents ws) c r ≡ contents ws
-      → (r ≡ answer) × Leaves ws ws (after_admission (contents ws) c answer)
-  refused r e same = (e, subst (Leaves ws ws) (sym same ∙ ap (after_admission (contents ws) c) e) (leaves_same ws h))
+  -- Where the tests are passed and the search finds none that fails, the answer is the next number.
+  next_number : connection_allowed (contents ws).settings c ≡ true → length (contents ws).standing < most_connections
+      → rate (contents ws).settings (with_newcomer (contents ws) c) ≤ (contents ws).settings.cycle
+      → holds ≡ finite_search (contents ws).settings (with_newcomer (contents ws) c) → Ok (suc (length (contents ws).standing)) ≡ answer
+  unfolding admission_answer rate_holds search_answer
+  next_number e f g q =
+      let count = length (contents ws).standing in
+      let most = (contents ws).settings.cycle in
+      rw (sound_contents ws h, e, lt-leb most_connections count f, le-leb (rate (contents ws).settings (with_newcomer (contents ws) c)) most g)
+      (ap (search_answer (suc count)) q)
 
   -- A connection that is taken stands in a new row; the count, M and the rate are as the code reads them.
   pub taken : (after : List ℕ) (n slots sum : ℕ) (row : Standing) → row ≡ record { asked = c; allowance = full c }
@@ -149,17 +104,28 @@ module _ (ws : List ℕ) (c : Connection) (h : sound_words ws ≡ true) where
       → holds ≡ finite_search (settings_at ws) (with_asked ws c)
       → Become ws after (with_standing (contents ws) ((contents ws).standing ++ (row ∷ [])))
       → (Ok (n + 1) ≡ answer) × Leaves ws after (after_admission (contents ws) c answer)
-  unfolding after_admission search_answer
+  unfolding after_admission
   taken after n slots sum row f ok en few es er fits found b =
       let one_more : n + 1 ≡ suc (length (contents ws).standing) = omega arith in
       let rate_is : sum ≡ rate (contents ws).settings (with_newcomer (contents ws) c) = er ∙ ap₂ rate (settings_are ws) (newcomer ws c) in
       let e : Ok (n + 1) ≡ answer =
-      ap Ok one_more ∙
-      answer_search (contents ws) c (sound_contents ws h) holds (found ∙ ap₂ finite_search (settings_are ws) (newcomer ws c)) (sym ok) (omega arith)
-      (omega arith) in
+      ap Ok one_more ∙ next_number (sym ok) (omega arith) (omega arith) (found ∙ ap₂ finite_search (settings_are ws) (newcomer ws c)) in
       let k : with_standing (contents ws) ((contents ws).standing ++ (row ∷ [])) ≡ after_admission (contents ws) c (Ok (n + 1)) =
       ap (λ x. with_standing (contents ws) ((contents ws).standing ++ (x ∷ []))) f in (
         e,
         leaves ws after (after_admission (contents ws) c answer) h (admission_keeps_sound (contents ws) c (sound_contents ws h))
             (subst (Become ws after) (k ∙ ap (after_admission (contents ws) c) e) b),
       )
+
+-- A refusal leaves the box as it was.
+pub refused : (b : Box) (c : Connection) (why : Refusal) → after_admission b c (Err why) ≡ b
+unfolding after_admission
+refused b c why = refl
+
+-- Where the search finds a t that fails, the answer is 6.
+pub fails : (n t : ℕ) → search_answer n (fails_at t) ≡ Err (Refusal.ConditionFails t)
+unfolding search_answer
+fails n t = refl
+
+-- What an admission goes by.
+pub ruleset admits = (sound_fitting, sound_contents, leaves_same, settings_are, newcomer, ready, standing_word, refused, fails, taken, le-leb, lt-leb)

@@ -1,7 +1,7 @@
 -- An offer in words: what the row of a standing connection gives, the changes that make an acceptance, and the answers.
 use Prim.Native.Nat.{ℕ, suc, ◌+◌, ◌-◌, ◌≤◌, ◌<◌}
 use mathlib.Core.Path.{◌≡◌, refl, sym, ap, ap₂, ◌∙◌, subst}
-use mathlib.Core.Bool.{Bool, true, false}
+use mathlib.Core.Bool.{true}
 use mathlib.Core.List.{List, flatten}
 use native.Mathlib.Numerals.{add-one}
 use native.Mathlib.Omega.{arith}
@@ -14,7 +14,7 @@ use Rattle.meaning.specs.declared.Allowance.{Allowance}
 use Rattle.meaning.specs.Envelope.{conforms, charged, allowance_kept}
 use Rattle.meaning.specs.Queues.{join_tail}
 use Rattle.meaning.specs.declared.Packet.{Packet}
-use Rattle.meaning.specs.Box.{Box, connection, stands, waiting, on_link, packets, sound}
+use Rattle.meaning.specs.Box.{Box, connection, stands, waiting, on_link, packets}
 use Rattle.meaning.specs.Calls.{allowance, with_standing, charged_at, joined, offer_answer, after_offer}
 use Rattle.meaning.proofs.Facts.{ConnectionFacts, settings_facts}
 use Rattle.meaning.proofs.KeptByOffer.{asked_allowed, allowance_kept_lem, factor_within, offer_keeps_sound}
@@ -196,12 +196,6 @@ module _ (ws : List ℕ) (n units : ℕ) (row : Standing) (ok : Acceptable ws n 
           let three = become_then ws w₂ w₃ _ _ two counts (native.Mathlib.Nat.le_of_eq counted_same) in
           subst (Become ws w₃) (ap (λ b. with_accepted b (suc b.accepted)) joined_is ∙ box_is ca ct) three
 
--- Whether a connection stands, as the code tests it.
-pub stands_as : (b : Box) (n count : ℕ) → count ≡ length b.standing → (r : Bool) → r ≡ within 1 n count → {t : Bool} → r ≡ t
-    → stands b n ≡ t
-unfolding stands
-stands_as b n count e r f g = ap (within 1 n) (sym e) ∙ sym f ∙ g
-
 -- The packet as the code makes it.
 pub packet_is : (ws : List ℕ) (n units serial slot : ℕ) → serial ≡ (contents ws).accepted → slot ≡ (contents ws).counter
     → ◌≡◌ {A = Packet} (record { serial = serial + 1; connection = n; units = units; arrival = slot })
@@ -209,62 +203,35 @@ pub packet_is : (ws : List ℕ) (n units serial slot : ℕ) → serial ≡ (cont
 packet_is ws n units serial slot e f =
     ap₂ (λ x y. record { serial = x; connection = n; units = units; arrival = y }) (add-one serial ∙ ap suc e) f
 
--- The answers of an offer on sound contents, in their order.
-module _ (b : Box) (n units : ℕ) (s : sound b ≡ true) where
-  -- Where no such connection stands, the answer is 7.
-  pub answer_unknown : stands b n ≡ false → (Err Refusal.NoConnection) ≡ offer_answer b n units
+-- A packet that is taken: the answer is the next serial, and the words are those of the box with it.
+module _ (ws : List ℕ) (n units : ℕ) (row : Standing) (ok : Acceptable ws n units row) where
+  -- The answer is the next serial.
+  next_serial : Ok (suc (contents ws).accepted) ≡ offer_answer (contents ws) n units
   unfolding offer_answer
-  answer_unknown e = rw (s, e) refl
-
-  -- Where the connection stands and the length is 0 or above s, the answer is 8.
-  pub answer_length : stands b n ≡ true → within 1 units (connection b n).longest ≡ false
-      → (Err Refusal.WrongLength) ≡ offer_answer b n units
-  unfolding offer_answer
-  answer_length e f = rw (s, e, f) refl
-
-  -- Where the length is permitted and the packet does not fit the envelope, the answer is 9.
-  pub answer_unfit : stands b n ≡ true → within 1 units (connection b n).longest ≡ true
-      → conforms (connection b n) (allowance b n) b.counter ≡ false
-      → (Err Refusal.NotFitting) ≡ offer_answer b n units
-  unfolding offer_answer
-  answer_unfit e f g = rw (s, e, f, g) refl
-
-  -- Where the packet fits the envelope and 1,024 packets wait, the answer is 10.
-  pub answer_full : stands b n ≡ true → within 1 units (connection b n).longest ≡ true
-      → conforms (connection b n) (allowance b n) b.counter ≡ true
-      → most_waiting ≤ length (waiting b) → (Err Refusal.StoreFull) ≡ offer_answer b n units
-  unfolding offer_answer
-  answer_full e f g h = rw (s, e, f, g, le-leb most_waiting (length (waiting b)) h) refl
-
-  -- Where the packet fits and there is room, it is accepted with the next serial.
-  answer_accepted : stands b n ≡ true → within 1 units (connection b n).longest ≡ true
-      → conforms (connection b n) (allowance b n) b.counter ≡ true
-      → length (waiting b) < most_waiting → Ok (suc b.accepted) ≡ offer_answer b n units
-  unfolding offer_answer
-  answer_accepted e f g h = rw (s, e, f, g, lt-leb most_waiting (length (waiting b)) h) refl
-
--- What an answer leaves.
-module _ (ws : List ℕ) (n units : ℕ) (h : sound_words ws ≡ true) where
-  -- A refusal leaves the words as they were.
-  pub refused : (r : Result ℕ Refusal) → r ≡ offer_answer (contents ws) n units → after_offer (contents ws) n units r ≡ contents ws
-      → (r ≡ offer_answer (contents ws) n units) × Leaves ws ws (after_offer (contents ws) n units (offer_answer (contents ws) n units))
-  refused r e same = (e, subst (Leaves ws ws) (sym same ∙ ap (after_offer (contents ws) n units) e) (leaves_same ws h))
-
-  -- A packet that is taken leaves the box with it.
-  pub taken : (row : Standing) → Acceptable ws n units row → (after : List ℕ) (serial : ℕ) → serial ≡ suc (contents ws).accepted
-      → Become ws after (accepted_box (contents ws) n units)
-      → (Ok serial ≡ offer_answer (contents ws) n units) ×
-      Leaves ws after (after_offer (contents ws) n units (offer_answer (contents ws) n units))
-  taken row ok after serial q b =
+  next_serial =
       let permitted : within 1 units (connection (contents ws) n).longest ≡ true = rw ok.row_asked ok.permitted in
       let fit : conforms (connection (contents ws) n) (allowance (contents ws) n) (contents ws).counter ≡ true =
       rw (ok.row_asked, ok.row_allowance) ok.fit in
-      let e = answer_accepted (contents ws) n units (sound_contents ws h) ok.number_stands permitted fit ok.room in (
-        ap Ok q ∙ e,
-        leaves ws after (after_offer (contents ws) n units (offer_answer (contents ws) n units)) h
-            (offer_keeps_sound (contents ws) n units (sound_contents ws h))
-            (subst (Become ws after) (ap (after_offer (contents ws) n units) e) b),
-      )
+      rw (sound_contents ws ok.sound_words_lem, ok.number_stands, permitted, fit, lt-leb most_waiting (length (waiting (contents ws))) ok.room) refl
+
+  -- What the acceptance makes of the words is what the offer leaves.
+  pub taken : (after : List ℕ) (serial : ℕ) → serial ≡ suc (contents ws).accepted → Become ws after (accepted_box (contents ws) n units)
+      → (Ok serial ≡ offer_answer (contents ws) n units) ×
+      Leaves ws after (after_offer (contents ws) n units (offer_answer (contents ws) n units))
+  taken after serial q b = (
+    ap Ok q ∙ next_serial,
+    leaves ws after (after_offer (contents ws) n units (offer_answer (contents ws) n units)) ok.sound_words_lem
+        (offer_keeps_sound (contents ws) n units (sound_contents ws ok.sound_words_lem))
+        (subst (Become ws after) (ap (after_offer (contents ws) n units) next_serial) b),
+  )
 
 -- What an acceptance goes by.
 pub ruleset accepting = (sound_fitting, accepted_most, number_within)
+
+-- A refusal leaves the box as it was.
+pub refused : (b : Box) (n units : ℕ) (why : Refusal) → after_offer b n units (Err why) ≡ b
+unfolding after_offer
+refused b n units why = refl
+
+-- What an offer goes by.
+pub ruleset offers = (sound_fitting, number_within, sound_contents, leaves_same, refused, le-leb, lt-leb)

@@ -15,7 +15,7 @@ use words::numbers::is_within;
 
 impl Sound<'_> {
     // Whether the numbers of a connection are allowed: class, s, b and T in range, T dividing M.
-    #[tactic(auto, using(words::proofs::Counts::sound_fitting))]
+    #[tactic(auto, using(crate::proofs::Admits::numbers))]
     fn allowed(&self, c: Connection) -> bool
         ensures { result ≡ connection_allowed (contents self.now.words.now).settings c }
     {
@@ -36,7 +36,7 @@ impl Sound<'_> {
     }
 
     // An admission.
-    #[tactic(auto, using(words::proofs::Counts::sound_fitting))]
+    #[tactic(auto, using(crate::proofs::Admits::admits), unfolding(meaning::specs::Calls::admission_answer, meaning::specs::Admission::rate_holds))]
     pub fn admit(&mut self, c: Connection) -> Result<u32, Refusal>
         ensures same { self.new.words.ghost_name ≡ self.old.words.ghost_name }
         ensures promise { AdmitSoundPromise self.old.words.now c result self.new.words.now }
@@ -68,6 +68,7 @@ impl Sound<'_> {
 }
 
 // Admission: "Admission: 1, 3, 4, 5, 6".
+#[tactic(auto, using(crate::proofs::Sounds::unchanged), unfolding(crate::specs::Promised::admission, crate::specs::Promised::words_admitted))]
 pub fn admit(
     ws: &mut [u32],
     class: u32,

@@ -53,7 +53,7 @@ fn accept(ws: &mut [u32], n: u32, units: u32, mut row: Standing) -> u32
 
 impl Sound<'_> {
     // An offer.
-    #[tactic(auto, using(words::proofs::Counts::sound_fitting))]
+    #[tactic(auto, using(crate::proofs::Offers::offers), unfolding(meaning::specs::Calls::offer_answer, meaning::specs::Box::stands))]
     pub fn offer(&mut self, n: u32, units: u32) -> Result<u32, Refusal>
         ensures same { self.new.words.ghost_name ≡ self.old.words.ghost_name }
         ensures promise { OfferSoundPromise self.old.words.now n units result self.new.words.now }
@@ -77,6 +77,7 @@ impl Sound<'_> {
 }
 
 // Offering a packet: "Offer: 1, 7, 8, 9, 10".
+#[tactic(auto, using(crate::proofs::Sounds::unchanged), unfolding(crate::specs::Promised::offering, crate::specs::Promised::words_offered))]
 pub fn offer(ws: &mut [u32], n: u32, units: u32) -> Result<u32, Refusal>
     ensures { OfferPromise ws.old n units result ws.new }
 {

@@ -72,6 +72,7 @@ impl Sound<'_> {
     }
 
     // A step.
+    #[tactic(auto, using(crate::proofs::Steps::at_end, crate::proofs::Steps::at_block, crate::proofs::Steps::at_move))]
     pub fn step(&mut self) -> Result<Stepped, Refusal>
         ensures same { self.new.words.ghost_name ≡ self.old.words.ghost_name }
         ensures promise { StepSoundPromise self.old.words.now result self.new.words.now }
@@ -87,6 +88,7 @@ impl Sound<'_> {
 }
 
 // One step: "Step: 1, 12, 11".
+#[tactic(auto, using(crate::proofs::Sounds::unchanged), unfolding(crate::specs::Promised::stepping, crate::specs::Promised::words_stepped))]
 pub fn step(ws: &mut [u32]) -> Result<Stepped, Refusal>
     ensures { StepPromise ws.old result ws.new }
 {

@@ -72,6 +72,6 @@ returns c =
     (packet_is ws n units serial.result slot.result serial.ensures slot.ensures) joined.ensures in
     let e : a ≡ charged_is row.asked row.allowance (contents ws).counter =
     c.charge.ensures ∙ ap (charged_is row.asked row.allowance) slot.ensures in
-    taken ws n units ok.sound_words_lem row ok counted.new.ws (serial.result + 1) (add-one serial.result ∙ ap suc serial.ensures)
+    taken ws n units row ok counted.new.ws (serial.result + 1) (add-one serial.result ∙ ap suc serial.ensures)
     (accepted_becomes ws n units row ok a tag.result wrote.new.ws wrote.ensures joined.new.ws joins e tag.ensures.0
     tag.ensures.1 counted.new.ws counted.ensures)
