@@ -4,7 +4,7 @@ use mathlib.Core.Path.{◌≡◌, refl}
 use mathlib.Core.List.{List}
 use lib.ListN.{length}
 use Rattle.meaning.specs.Numbers.{class_count}
-use Rattle.words.specs.Places.{word, interval_at, cycle_at, classes_at, row_count_at, counter_at, accepted_at}
+use Rattle.words.specs.Places.{word, interval_at, classes_at, row_count_at, counter_at, accepted_at}
 use Rattle.words.specs.Contents.{contents, settings_at}
 use Rattle.words.proofs.PutContents.{class_count_lem, row_count}
 
@@ -12,11 +12,6 @@ use Rattle.words.proofs.PutContents.{class_count_lem, row_count}
 pub interval_word : (ws : List ℕ) → (contents ws).settings.interval ≡ word ws interval_at
 unfolding contents settings_at
 interval_word ws = refl
-
--- The cycle M is the word at its place.
-pub cycle_word : (ws : List ℕ) → (contents ws).settings.cycle ≡ word ws cycle_at
-unfolding contents settings_at
-cycle_word ws = refl
 
 -- The number of classes is the word at its place.
 pub classes_word : (ws : List ℕ) → class_count (contents ws).settings ≡ word ws classes_at
