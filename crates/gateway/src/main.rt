@@ -25,7 +25,7 @@ fn read_full(from: &mut impl Read, room: &mut [u8]) -> io::Result<usize>
     Ok(at)
 }
 
-// An input that cannot be read, and lines that cannot be written, end it with an error that says so on standard error.
+// Its rooms are arrays, since the program has no heap. An input that cannot be read, and lines that cannot be written, end it with an error that says so on standard error.
 fn main(rt: HostRuntime) -> Result<()> {
     let mut plan = zeros::<u8, PLAN_ROOM>();
     let mut text = zeros::<u8, TEXT_ROOM>();

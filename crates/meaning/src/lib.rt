@@ -90,7 +90,8 @@ pub enum Stepped {
     },
 }
 
-// A table of a plan: how many entries it has, and the byte at which it starts.
+// A table of a plan: how many entries it has, and the byte at which it starts, since document 01 passes the tables on as parts of the plan
+// that start at their offsets.
 #[derive(Clone, Copy, Debug, PartialEq, Eq)]
 pub struct Table {
     pub count: usize,

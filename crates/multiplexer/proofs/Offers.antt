@@ -26,6 +26,7 @@ use Rattle.words.specs.Sound.{Fitting, sound_words}
 use Rattle.words.specs.Changes.{Become}
 use Rattle.store.specs.StoreChanges.{with_queues}
 use Rattle.tables.specs.TableChanges.{with_accepted}
+use Rattle.words.proofs.Ranges.{contains_within}
 use Rattle.words.proofs.Counts.{waiting_count, sound_fitting}
 use Rattle.words.proofs.PutContents.{row_count}
 use Rattle.words.proofs.Readings.{classes_word, accepted_word}
@@ -234,4 +235,4 @@ unfolding after_offer
 refused b n units why = refl
 
 -- What an offer goes by.
-pub ruleset offers = (sound_fitting, number_within, sound_contents, leaves_same, refused, le-leb, lt-leb)
+pub ruleset offers = (contains_within, sound_fitting, number_within, sound_contents, leaves_same, refused, le-leb, lt-leb)

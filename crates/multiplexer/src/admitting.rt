@@ -43,7 +43,7 @@ impl Sound<'_> {
     }
 }
 
-// Admission: "Admission: 1, 3, 4, 5, 6".
+// Admission: "Admission: 1, 3, 4, 5, 6". Class, s, b and T stay four arguments: README and C call it so.
 #[tactic(auto, using(crate::proofs::Sounds::unchanged), unfolding(crate::specs::Promised::admission, crate::specs::Promised::words_admitted))]
 pub fn admit(
     ws: &mut [u32],

@@ -52,7 +52,7 @@ fn accept(ws: &mut [u32], n: u32, units: u32, mut row: Standing) -> u32
 
 impl Sound<'_> {
     // An offer.
-    #[tactic(auto, using(crate::proofs::Offers::offers, words::proofs::Ranges::contains_within), unfolding(meaning::specs::Calls::offer_answer, meaning::specs::Box::stands))]
+    #[tactic(auto, using(crate::proofs::Offers::offers), unfolding(meaning::specs::Calls::offer_answer, meaning::specs::Box::stands))]
     pub fn offer(&mut self, n: u32, units: u32) -> Result<u32, Refusal>
         ensures same { self.new.words.ghost_name ≡ self.old.words.ghost_name }
         ensures promise { OfferSoundPromise self.old.words.now n units result self.new.words.now }

@@ -38,7 +38,7 @@ pub fn arrivals(plan: &[u8], h: Header) -> &[u8]
     part(plan, h.arrivals, 12)
 }
 
-// The factor numbered i of a class table, counted from 0; 0 past its end.
+// The factor numbered i of a class table, counted from 0; 0 past its end, as the definition `factor_at` has it, and so the entries below.
 #[tactic(auto, unfolding(meaning::specs::Plan::factor_at))]
 pub fn factor(classes: &[u8], i: usize) -> u32
     ensures { result ≡ factor_at (words_of classes.now) i }

@@ -60,7 +60,7 @@ pub fn packets_fit(ws: &[u32], start: usize, count: usize, rank: usize) -> bool
     true
 }
 
-// The link is free and its words are 0, or its packet is kept and has more units than are left.
+// The link is free, which 0 units left say in words (docs/LAYOUT.md), and its words are 0, or its packet is kept and has more units than are left.
 pub fn link_tested(ws: &[u32]) -> bool
     requires { Tables ws.now }
     ensures { result ≡ link_tested ws.now }

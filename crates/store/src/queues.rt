@@ -65,7 +65,8 @@ fn behead(ws: &mut [u32], tag: usize)
     ws[LENGTHS_AT + place] -= 1;
 }
 
-// The step would turn the queues while tag 0 still has a packet, once the head of this step is taken.
+// The step would turn the queues while tag 0 still has a packet, once the head of this step is taken. Of the link
+// only the units left are read: 0 of them are a free link (docs/LAYOUT.md).
 pub fn tag_zero_waits(ws: &[u32]) -> bool
     requires { Fitting ws.now }
     ensures { result ≡ tag_zero_waits (queues_taken (contents ws.now).link (contents ws.now).queues) }

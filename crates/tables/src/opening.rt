@@ -5,7 +5,8 @@ use crate::settings::settings_allowed;
 use meaning::Refusal;
 use words::places::{BOX_WORDS, CLASSES_AT, CYCLE_AT, FACTORS_AT, INTERVAL_AT, PACKETS_AT};
 
-// Opens a box: the words are then those of a new box, whatever stood there before; a refusal leaves them as they were.
+// Opens a box: the words are then those of a new box, whatever stood there before; a refusal leaves them as they were. D, M and the
+// factors stay three arguments: README and C call it so.
 pub fn open(ws: &mut [u32], d: u32, m: u32, factors: &[u32]) -> Result<(), Refusal>
     ensures { OpenPromise ws.old d m factors.now result ws.new }
 {
