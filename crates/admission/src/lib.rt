@@ -12,6 +12,7 @@ use meaning::Connection;
 use tables::rows::{asked_at, standing_count};
 use tables::settings::{class_count, class_factor, cycle, interval};
 
+// What all methods ask of the words and the newcomer goes with them; a bound on t alone stays a clause.
 // A newcomer asks to stand beside the connections in the words: "the set with the newcomer".
 #[derive(Clone, Copy)]
 pub struct Asking<'a> {

@@ -1,5 +1,5 @@
-// The number of an answer and its other result fields, one after another, computed here for lines, for C and for tests: a function for each
-// call, since document 01 gives each its own fields.
+// The number of an answer and its other result fields, one after another, for lines, for C and for tests: a function for each kind of answer,
+// since document 01 gives each its own fields.
 #![tactic(auto)]
 
 ghost use Rattle.std.specs.Prelude.{◌≡◌, drop};

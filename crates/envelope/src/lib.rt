@@ -20,7 +20,7 @@ pub fn fresh(c: Connection) -> Allowance
 
 // The allowance with the credits put in that have come back by this slot: one at the slot `next`, and one more after each period.
 #[tactic(auto, unfolding(meaning::specs::Envelope::refilled, meaning::specs::Envelope::came_back, meaning::specs::Envelope::allowance_kept, laws::specs::Tests::within))]
-fn refill(row: Standing, slot: u32) -> Allowance
+pub fn refill(row: Standing, slot: u32) -> Allowance
     requires { Ready row slot }
     ensures { result ≡ refilled row.asked row.allowance slot }
 {
@@ -49,7 +49,7 @@ pub fn conforming(row: Standing, slot: u32) -> bool
 
 // The allowance once an accepted packet is charged: one credit less, and from a full one the next credit comes back after a period.
 #[tactic(auto, unfolding(meaning::specs::Envelope::conforms, meaning::specs::Envelope::charged))]
-fn charged(row: Standing, slot: u32) -> Allowance
+pub fn charged(row: Standing, slot: u32) -> Allowance
     requires { Chargeable row slot }
     ensures { result ≡ charged row.asked row.allowance slot }
 {

@@ -1,5 +1,6 @@
 // One line of output into a lent buffer: a fixed word and its numbers. Document 01, "The program and one whole run". The buffer and the place
-// stay two arguments: a struct that holds a `&mut` has to ensure of each call that it still holds the same one.
+// stay two arguments: the bytes are the caller's, so with a struct that holds them each of these functions, and each that prints with them, would
+// have to ensure that it still holds the same ones.
 #![tactic(auto)]
 
 ghost use Rattle.std.specs.Prelude.{◌≡◌, ◌<◌, ◌+◌};
@@ -63,7 +64,7 @@ fn put_fields(out: &mut [u8], at: usize, numbers: &[u32]) -> usize
     next
 }
 
-// A line: a fixed word with its space, and its numbers.
+// A line: a fixed word with its space, and its numbers, as fixed byte strings written into the output buffer: document 01 names this form.
 fn put_line(out: &mut [u8], at: usize, word: &[u8], numbers: &[u32]) -> usize
     requires { Room out.old at (numbered word.now numbers.now) }
     ensures { Put out.old out.new at (numbered word.now numbers.now) result }

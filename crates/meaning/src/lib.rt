@@ -36,7 +36,7 @@ pub struct Packet {
     pub arrival: u32,
 }
 
-// The link is free, or carries a packet with so many units left to send.
+// The link is free, or carries a packet with so many units left to send: two cases by name, as the definitions have always had them.
 #[derive(Clone, Copy, Debug, PartialEq, Eq)]
 pub enum Link {
     Free,
@@ -109,7 +109,7 @@ pub struct Header {
 }
 
 // "`ADMIT` place, answer, t. `OFFER` arrival place, answer, serial or 0. `DEPART` serial, connection's place, arrival, departure.
-// `END` counter, accepted, departed." "`REFUSED` and the number"; "`STOP` and the number".
+// `END` counter, accepted, departed." "`REFUSED` and the number"; "`STOP` and the number". The numbers are those that are printed.
 #[derive(Clone, Copy, Debug, PartialEq, Eq)]
 pub enum Line {
     Admit {

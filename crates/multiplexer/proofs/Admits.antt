@@ -1,7 +1,7 @@
 -- An admission in words: what sound words give the search, and the answers.
 use Prim.Native.Nat.{ℕ, suc, ◌+◌, ◌%◌, ◌≤◌, ◌<◌}
 use mathlib.Core.Path.{◌≡◌, refl, sym, ap, ap₂, ◌∙◌, subst}
-use mathlib.Core.Bool.{true, ◌&&◌}
+use mathlib.Core.Bool.{true, false, ◌&&◌}
 use mathlib.Core.List.{List, [], ◌∷◌, ◌++◌}
 use native.Mathlib.Omega.{arith}
 use lib.ListN.{length, get_or, length-map, get_or-map}
@@ -18,7 +18,7 @@ use Rattle.meaning.specs.Numbers.{most_connections}
 use Rattle.meaning.specs.Envelope.{full}
 use Rattle.meaning.specs.Admission.{rate, rate_holds, finite_search}
 use Rattle.meaning.specs.declared.Standing.{Standing}
-use Rattle.meaning.specs.Box.{Box, connections, no_connection}
+use Rattle.meaning.specs.Box.{Box, connections, no_connection, sound}
 use Rattle.meaning.specs.Calls.{with_newcomer, search_answer, with_standing, admission_answer, after_admission}
 use Rattle.meaning.proofs.KeptByAdmission.{admission_keeps_sound}
 use Rattle.meaning.specs.declared.Standing.{Standing}
@@ -116,6 +116,27 @@ module _ (ws : List ℕ) (c : Connection) (h : sound_words ws ≡ true) where
         leaves ws after (after_admission (contents ws) c answer) h (admission_keeps_sound (contents ws) c (sound_contents ws h))
             (subst (Become ws after) (k ∙ ap (after_admission (contents ws) c) e) b),
       )
+
+-- The answers of an admission on sound contents, in their order.
+module _ (b : Box) (c : Connection) (s : sound b ≡ true) where
+  -- Where the newcomer is not allowed, the answer is 3.
+  pub answer_range : connection_allowed b.settings c ≡ false → Err Refusal.ConnectionOffRange ≡ admission_answer b c
+  unfolding admission_answer
+  answer_range e = rw (s, e) refl
+
+  -- Where the newcomer is allowed and 32 connections stand, the answer is 4.
+  pub answer_full : connection_allowed b.settings c ≡ true → most_connections ≤ length b.standing
+      → Err Refusal.TableFull ≡ admission_answer b c
+  unfolding admission_answer
+  answer_full e f = rw (s, e, le-leb most_connections (length b.standing) f) refl
+
+  -- Where there is room and the rate exceeds M, the answer is 5.
+  pub answer_rate : connection_allowed b.settings c ≡ true → length b.standing < most_connections
+      → b.settings.cycle < rate b.settings (with_newcomer b c) → Err Refusal.RateExceeded ≡ admission_answer b c
+  unfolding admission_answer rate_holds
+  answer_rate e f g =
+      let rate_is = rate b.settings (with_newcomer b c) in
+      rw (s, e, lt-leb most_connections (length b.standing) f, lt-leb rate_is b.settings.cycle g) refl
 
 -- A refusal leaves the box as it was.
 pub refused : (b : Box) (c : Connection) (why : Refusal) → after_admission b c (Err why) ≡ b

@@ -14,7 +14,7 @@ use Rattle.meaning.specs.declared.Allowance.{Allowance}
 use Rattle.meaning.specs.Envelope.{conforms, charged, allowance_kept}
 use Rattle.meaning.specs.Queues.{join_tail}
 use Rattle.meaning.specs.declared.Packet.{Packet}
-use Rattle.meaning.specs.Box.{Box, connection, stands, waiting, on_link, packets}
+use Rattle.meaning.specs.Box.{Box, connection, stands, waiting, on_link, packets, sound}
 use Rattle.meaning.specs.Calls.{allowance, with_standing, charged_at, joined, offer_answer, after_offer}
 use Rattle.meaning.proofs.Facts.{ConnectionFacts, settings_facts}
 use Rattle.meaning.proofs.KeptByOffer.{asked_allowed, allowance_kept_lem, factor_within, offer_keeps_sound}
@@ -233,6 +233,13 @@ pub ruleset accepting = (sound_fitting, accepted_most, number_within)
 pub refused : (b : Box) (n units : ℕ) (why : Refusal) → after_offer b n units (Err why) ≡ b
 unfolding after_offer
 refused b n units why = refl
+
+-- Where the packet fits the envelope and 1,024 packets wait, the answer of an offer on sound contents is 10.
+pub answer_full : (b : Box) (n units : ℕ) → sound b ≡ true → stands b n ≡ true → within 1 units (connection b n).longest ≡ true
+    → conforms (connection b n) (allowance b n) b.counter ≡ true → most_waiting ≤ length (waiting b)
+    → Err Refusal.StoreFull ≡ offer_answer b n units
+unfolding offer_answer
+answer_full b n units s e f g h = rw (s, e, f, g, le-leb most_waiting (length (waiting b)) h) refl
 
 -- What an offer goes by.
 pub ruleset offers = (contains_within, sound_fitting, number_within, sound_contents, leaves_same, refused, le-leb, lt-leb)

@@ -7,7 +7,8 @@ ghost use Rattle.plan.specs.Parts.{part_of, arrivals_in, boundary, stretch_of};
 use super::words::number;
 use meaning::{Arrival, Connection, Header, Table};
 
-// The part of a plan that starts at a table's offset and holds its entries of so many bytes each; empty where the plan has no such part.
+// The part of a plan that starts at a table's offset and holds its entries of so many bytes each; empty where the plan has no such part, as
+// the definition `part_of` has it.
 fn part(plan: &[u8], t: Table, width: usize) -> &[u8]
     ensures { result.now ≡ part_of plan.now t width }
 {

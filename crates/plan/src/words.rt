@@ -36,7 +36,7 @@ pub(crate) fn words(bytes: &[u8]) -> &[[u8; 4]]
     bytes.as_chunks().0
 }
 
-// The number of the word at place i, or 0 where the bytes end before it.
+// The number of the word at place i, or 0 where the bytes end before it, as the words of the definitions have it.
 pub(crate) fn number(bytes: &[u8], i: usize) -> u32
     ensures { result ≡ slice_index (words_of bytes.now) i }
 {

@@ -12,7 +12,7 @@ use store::lengths::lengths_below;
 use tables::settings::{largest_factor, turns};
 use words::places::{ACCEPTED_AT, BOX_WORDS, COUNTER_AT, LEFT_AT, LENGTHS_AT, PACKETS_AT};
 
-// The counter, the waiting packets and the count of accepted ones are in range.
+// The counter, the waiting packets and the count of accepted ones are in range; 0 units left on the link are a free link (docs/LAYOUT.md).
 fn counts_tested(ws: &[u32]) -> bool
     requires { box_words ≤ length ws.now }
     ensures { result ≡ counts_tested ws.now }

@@ -26,7 +26,7 @@ use Rattle.words.proofs.TableReads.{lengths_most}
 use Rattle.words.proofs.Counts.{sound_fitting}
 use Rattle.words.proofs.TestedSound.{sound_queues}
 use Rattle.words.proofs.Same.{queue_tagged_at, waiting_length}
-use Rattle.store.proofs.QueueLaws.{lowest_first, lowest_none, take_sets, take_none, take_head}
+use Rattle.store.proofs.QueueLaws.{lowest_first, lowest_none, lowest_most, take_sets, take_none, take_head}
 use Rattle.tables.proofs.LinkWritten.{link_free, link_busy}
 use Rattle.store.proofs.Shift.{start_is}
 use Rattle.words.proofs.Becoming.{become_then}
@@ -45,7 +45,8 @@ pub lowest_found : (ws : List ℕ) (end : ℕ) (found : Option ℕ) → end ≡ 
     → LowestTag ws found
 unfolding contents
 lowest_found ws end None e h =
-    let n = lowest_none (queues_at ws) (λ k l. h k (omega arith) (omega (arith, tags ws))) in omega (arith, tags ws)
+    let n = lowest_none (queues_at ws) (λ k l. h k (omega arith) (omega (arith, tags ws))) in
+    (omega (arith, tags ws), omega (arith, tags ws, lowest_most (queues_at ws)))
 lowest_found ws end (Some tag) e h = (lowest_first (queues_at ws) tag h.2 (λ k l. h.3 k (omega arith) l), omega arith)
 
 -- What holds of the head of a queue that has a packet.

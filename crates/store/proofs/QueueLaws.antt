@@ -37,6 +37,13 @@ module _ {A : Type 0} where
   lowest_none (q ∷ qs) h =
       rw (lowest_empty q qs (h 0 (omega arith))) (omega (arith, lowest_none qs (λ k l. h (suc k) (omega arith))))
 
+  -- The lowest tag is at most the number of queues.
+  pub lowest_most : (qs : List (List A)) → lowest_tag qs ≤ length qs
+  unfolding lowest_tag
+  lowest_most [] = omega arith
+  lowest_most ([] ∷ qs) = omega (arith, lowest_most qs)
+  lowest_most ((x ∷ q) ∷ qs) = omega arith
+
   -- Joining a tail sets one queue.
   pub join_sets : (tag : ℕ) (p : A) (qs : List (List A)) → tag < length qs → join_tail tag p qs ≡ set qs tag (get_or qs tag [] ++ (p ∷ []))
   unfolding join_tail

@@ -43,7 +43,9 @@ beheaded tag box = with_queues box (set box.queues tag (drop 1 (get_or box.queue
 -- The tag of the lowest-tagged queue that has a packet, and none where no queue has one.
 abbrev pub LowestTag : List ℕ → Option ℕ → Type 0
 LowestTag ws found =
-    MatchOption found (largest_factor (contents ws).settings < lowest_tag (contents ws).queues)
+    MatchOption found
+    ((largest_factor (contents ws).settings < lowest_tag (contents ws).queues)
+    × (lowest_tag (contents ws).queues ≤ suc (largest_factor (contents ws).settings)))
     (λ tag. (tag ≡ lowest_tag (contents ws).queues) × (tag ≤ largest_factor (contents ws).settings))
 
 -- The queue with this tag has a packet.

@@ -1,4 +1,4 @@
-// The queues in words: which has a packet, joining a tail, taking a head, and the turn.
+// The queues in words: which has a packet, joining a tail and taking a head.
 ghost use Rattle.std.specs.Prelude.{◌≡◌, true, [], ◌+◌, ◌≤◌, ◌<◌, length, get_or};
 ghost use Rattle.meaning.specs.Numbers.{largest_factor};
 ghost use Rattle.meaning.specs.Queues.{tag_zero_waits};

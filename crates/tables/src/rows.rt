@@ -1,4 +1,5 @@
-// The connections' rows.
+// The connections' rows: read by number from 1, as document 01 numbers connections, and by row from 0 or by word, as the loops go. A row is read
+// and written field by field: a conversion from words would name the same places.
 #![tactic(auto, unfolding(words::specs::Contents::standing_at))]
 
 ghost use Rattle.std.specs.Prelude.{◌≡◌, ◌+◌, ◌≤◌, ◌<◌, length};

@@ -1,5 +1,6 @@
 -- The admissions of a file, one after another: what is left of `admit_all` at each place.
 use Prim.Native.Nat.{ℕ, suc, ◌+◌, ◌*◌, ◌/◌, ◌<◌}
+use mathlib.Core.Bool.{true}
 use mathlib.Core.Path.{◌≡◌, refl, sym, ap, ◌∙◌, subst}
 use mathlib.Core.List.{List, [], ◌∷◌, ◌++◌, append_assoc, append-nil}
 use native.Mathlib.Omega.{arith}
@@ -13,6 +14,7 @@ use Rattle.meaning.specs.Plan.{words_of, connection_at}
 use Rattle.meaning.specs.Run.{AfterAdmissions, line_of_admission, admit_all}
 use Rattle.meaning.specs.Lines.{line_text, text_of}
 use Rattle.words.specs.Contents.{contents}
+use Rattle.words.specs.Sound.{sound_words}
 use Rattle.plan.specs.Entries.{length_table, get_or_table}
 use Rattle.lines.specs.Put.{Room, Put}
 use Rattle.multiplexer.specs.Promised.{Leaves}
@@ -104,31 +106,33 @@ module _ (bytes : List ℕ) (i : ℕ) (c : Connection) (is : c ≡ connection_at
       pub admit_room : Room out at (line_text (Line.Admit place number t))
       admit_room = reached_next (line_text (Line.Admit place number t)) (text_of (rest_admitted bytes (suc i) after).lines) room to_print
 
-      -- Once the connection's line is printed and its number stands, one more admission is done.
+      -- Once the connection's line is printed and its number stands, one more admission is done, and the words are sound.
       pub admit_on :
           {next : List ℕ} {last : ℕ} (left : List ℕ) (given : ℕ) → i < length numbers → given ≡ get_or (admitted answer).fields 0 0
           → Leaves ws left after
           → Put out next at (line_text (Line.Admit place number t)) last
-          → Admitting bytes box (i + 1) left (set numbers i given) before next last
+          → Admitting bytes box (i + 1) left (set numbers i given) before next last × (sound_words left ≡ true)
       admit_on {next} {last} left given h v l p =
           let s : suc i ≡ i + 1 = omega arith in
           let o = opens (contents ws) in
           let same : rest_admitted bytes (suc i) (contents left) ≡ rest_admitted bytes (suc i) after =
-          ap (rest_admitted bytes (suc i)) l.stand_for in
-          subst (λ k. Admitting bytes box k left (set numbers i given) before next last) s
-          (record {
-            box_same = ap (λ r. r.box) same ∙ sym (ap (λ r. r.box) o) ∙ a.box_same;
-            numbers_join =
-                ap (λ m. m ++ (rest_admitted bytes (suc i) (contents left)).numbers) (take-suc-set numbers i given h) ∙
-                append_assoc (take i numbers) (given ∷ []) (rest_admitted bytes (suc i) (contents left)).numbers ∙
-                ap (λ r. take i numbers ++ (given ∷ r.numbers)) same ∙
-                ap (λ x. take i numbers ++ (x ∷ (rest_admitted bytes (suc i) after).numbers)) v ∙
-                sym (ap (λ r. take i numbers ++ r.numbers) o) ∙
-                a.numbers_join;
-            reached =
-                reached_as _ (sym (ap (λ r. text_of r.lines) same))
-                (reached_on (line_text (Line.Admit place number t)) (text_of (rest_admitted bytes (suc i) after).lines) room to_print p);
-          })
+          ap (rest_admitted bytes (suc i)) l.stand_for in (
+            subst (λ k. Admitting bytes box k left (set numbers i given) before next last) s
+                (record {
+                  box_same = ap (λ r. r.box) same ∙ sym (ap (λ r. r.box) o) ∙ a.box_same;
+                  numbers_join =
+                      ap (λ m. m ++ (rest_admitted bytes (suc i) (contents left)).numbers) (take-suc-set numbers i given h) ∙
+                      append_assoc (take i numbers) (given ∷ []) (rest_admitted bytes (suc i) (contents left)).numbers ∙
+                      ap (λ r. take i numbers ++ (given ∷ r.numbers)) same ∙
+                      ap (λ x. take i numbers ++ (x ∷ (rest_admitted bytes (suc i) after).numbers)) v ∙
+                      sym (ap (λ r. take i numbers ++ r.numbers) o) ∙
+                      a.numbers_join;
+                  reached =
+                      reached_as _ (sym (ap (λ r. text_of r.lines) same))
+                      (reached_on (line_text (Line.Admit place number t)) (text_of (rest_admitted bytes (suc i) after).lines) room to_print p);
+                }),
+            l.still_sound,
+          )
 
 -- All admissions are done.
 pub admit_end :

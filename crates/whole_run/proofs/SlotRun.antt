@@ -1,7 +1,8 @@
 -- One slot of a run: the stretch of its arrivals, its offers and its step.
 use Prim.Native.Nat.{ℕ, suc, ◌+◌, ◌/◌, ◌≤◌}
+use mathlib.Core.Bool.{true}
 use mathlib.Core.Path.{◌≡◌, sym, ap, ◌∙◌, subst}
-use mathlib.Core.List.{List, ◌++◌}
+use mathlib.Core.List.{List, [], ◌++◌}
 use native.Mathlib.Omega.{arith}
 use lib.ListN.{length}
 use Rattle.laws.specs.Lists.{placed_from}
@@ -13,6 +14,8 @@ use Rattle.meaning.specs.Run.{AfterOffers, offer_all, departures}
 use Rattle.meaning.specs.Lines.{text_of}
 use Rattle.meaning.specs.Rest.{due_now}
 use Rattle.words.specs.Contents.{contents}
+use Rattle.words.specs.Sound.{sound_words}
+use Rattle.whole_run.proofs.Stepping.{departed_same}
 use Rattle.plan.specs.Parts.{arrivals_in, leading, stretch_of}
 use Rattle.plan.specs.StretchPlaces.{leading_within, length_arrivals_in, stretch_within}
 use Rattle.plan.proofs.Stretch.{stretch_holds, walk_on}
@@ -100,17 +103,21 @@ module _ (numbers bytes : List ℕ) (box : Box) (passed : ℕ) (walked : Walked 
               subst (λ (x : Result Stepped Refusal). Room printed at (text_of (departures numbers x))) (sym now_is)
               (room_after (text_of (departures numbers (answer_now numbers bytes box))) offered both)
 
-          -- With the offers and the step done and their text put, the slot is run.
+          -- With the offers and the step done and their text put, the slot is run; the words are sound, and the departures are those of its answer.
           pub slot_runs :
               {after last : List ℕ} {next : ℕ} → Leaves ws after (after_step (contents ws) (step_answer (contents ws)))
               → Put printed last at (text_of (departures numbers answer)) next
-              → RunsSlot (record { at = next; passed = passed + length due / 12; answer = answer }) numbers bytes box after out last start
-          slot_runs {after} {last} {next} l p =
-              record {
-                text =
-                    subst (λ t. Put out last start t next) (sym text_of_slot)
-                    (then offered (subst (λ (x : Result Stepped Refusal). Put printed last at (text_of (departures numbers x)) next) now_is p) both);
-                passes = due_passes;
-                answer_is = now_is;
-                stand_for = l.stand_for ∙ ap (λ b. after_step b (step_answer b)) same;
-              }
+              → RunsSlot (record { at = next; passed = passed + length due / 12; answer = answer }) numbers bytes box after out last start ×
+              (sound_words after ≡ true) × (length (departures [] answer) ≡ length (departures numbers (answer_now numbers bytes box)))
+          slot_runs {after} {last} {next} l p = (
+            record {
+              text =
+                  subst (λ t. Put out last start t next) (sym text_of_slot)
+                  (then offered (subst (λ (x : Result Stepped Refusal). Put printed last at (text_of (departures numbers x)) next) now_is p) both);
+              passes = due_passes;
+              answer_is = now_is;
+              stand_for = l.stand_for ∙ ap (λ b. after_step b (step_answer b)) same;
+            },
+            l.still_sound,
+            departed_same numbers answer ∙ ap (λ (x : Result Stepped Refusal). length (departures numbers x)) now_is,
+          )

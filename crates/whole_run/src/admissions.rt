@@ -11,7 +11,7 @@ use meaning::Line;
 use multiplexer::sound::Sound;
 use plan::tables::connection;
 
-// The lines of the admissions, and the number of each place of the file, 0 for one that was refused.
+// The lines of the admissions, and the number of each place of the file, 0 for one that was refused, as the definition `admit_all` has it.
 pub fn admit_all(state: &mut Sound<'_>, table: &[u8], numbers: &mut [u32], out: &mut [u8]) -> usize
     requires most { (length table.now / 16 ≤ length numbers.old) × (length numbers.old ≤ 32) }
     requires room { Room out.old 0 (text_of (admissions_of table.now (contents state.old.words.now)).lines) }

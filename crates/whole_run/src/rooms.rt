@@ -1,4 +1,4 @@
-// Room for a plan, for the text of its run and for a box.
+// Room for a plan and for the text of its run, and arrays of zeros to be it, since the program has no heap.
 ghost use Rattle.whole_run.specs.Rooms.{Zeros};
 
 // Room for the longest plan and one byte more, by which a longer one is seen and refused.

@@ -10,7 +10,7 @@ ghost use Rattle.lines.specs.Put.{Room, Put};
 ghost use Rattle.whole_run.specs.Printing.{RunPromise};
 
 use super::admissions::admit_all;
-use super::rooms::zeros;
+use super::rooms::{TEXT_ROOM, zeros};
 use super::slots::run_slots;
 use lines::put;
 use meaning::{Header, Line, Refusal};
@@ -43,7 +43,7 @@ fn run_open(state: &mut Sound<'_>, plan: &[u8], h: Header, out: &mut [u8]) -> us
     run_slots(state, arrivals(plan, h), &numbers[..count], out, at)
 }
 
-// "opens a box", or prints only `REFUSED` and the number.
+// "opens a box", or prints only `REFUSED` and the number. The factors lie in an array, since the program has no heap.
 fn run_read(plan: &[u8], h: Header, out: &mut [u8]) -> usize
     requires { Readable plan.now h × Room out.old 0 (run_text plan.now) }
     ensures { Put out.old out.new 0 (run_text plan.now) result }
@@ -75,7 +75,7 @@ fn print_run(plan: &[u8], out: &mut [u8]) -> usize
 pub fn run_plan(plan: &[u8], out: &mut [u8]) -> Result<usize, Refusal>
     ensures { RunPromise plan.now out.old result out.new }
 {
-    if out.len() < 420000 {
+    if out.len() < TEXT_ROOM {
         return Err(Refusal::TooShort);
     }
     Ok(print_run(plan, out))

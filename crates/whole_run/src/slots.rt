@@ -1,7 +1,7 @@
 // "then for each slot offers that slot's arrivals and steps, until no arrivals remain and the box is empty, which is tested before each
-// slot". The box was opened here, so it is `Sound`: no slot tests it again.
+// slot". The program opened the box, so it is `Sound`: no slot tests it again.
 // The table, the arrivals passed and the numbers stay arguments: how far the table is walked is a relation to the box's counter, so a struct
-// of the three could not carry it.
+// of the three could not carry it. The buffer and its place are two as in `lines`.
 ghost use Rattle.std.specs.Prelude.{◌/◌, ◌≤◌, ◌≡◌, [], eqb, length};
 ghost use Rattle.meaning.specs.Box.{packets};
 ghost use Rattle.meaning.specs.Run.{departures, finished};

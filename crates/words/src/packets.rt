@@ -1,4 +1,4 @@
-// A packet as four words.
+// A packet as four words, field by field: a conversion from words would name the same four places.
 #![tactic(auto, unfolding(crate::specs::Contents::packet_at))]
 
 ghost use Rattle.std.specs.Prelude.{◌≡◌, ◌+◌, ◌≤◌, length};

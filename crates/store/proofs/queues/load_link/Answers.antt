@@ -15,4 +15,4 @@ lowest_tag-requires c = sound_fitting c.args.ws.now c.requires
 
 pub returns-in_default : goal.returns-in_default
 unfolding contents
-returns-in_default c = idle_become c.args.ws.now (sound_fitting c.args.ws.now c.requires) c.if-ws-ne0.false c.in_default.ensures
+returns-in_default c = idle_become c.args.ws.now (sound_fitting c.args.ws.now c.requires) c.if-ws-ne0.false c.in_default.ensures.0

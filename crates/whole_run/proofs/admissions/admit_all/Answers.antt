@@ -36,9 +36,9 @@ loop-i-preserved c =
     let answer : c.tell_admitted.result ≡ told (admitted (admission_answer (contents c.loop-i.state.words.now) c.connection-c.result)) =
     c.tell_admitted.ensures ∙ ap (λ (a : Result ℕ Refusal). told (admitted a)) c.admit.ensures.promise.0 in
     let line = c.put-at in
-    admit_on c.args.table.now loop.i _ read.ensures below c.requires.room i _ _ _ (omega arith)
+    (admit_on c.args.table.now loop.i _ read.ensures below c.requires.room i _ _ _ (omega arith)
     (told_number _ answer) (told_field _ answer 1) _ _ (omega arith)
-    (told_field _ answer 0) admission.ensures.promise.1 line.ensures
+    (told_field _ answer 0) admission.ensures.promise.1 line.ensures).0
 
 pub returns : goal.returns
 returns c = admit_end _ (omega arith) c.loop-i.invariant

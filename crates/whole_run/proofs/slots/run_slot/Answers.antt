@@ -51,7 +51,7 @@ returns c =
     let counter = c.counter-slot in
     let offers = c.offer_all-offered in
     let step = c.step-answer in
-    slot_runs a.numbers.now a.table.now (contents a.state.now.words.now) a.passed p.0 p.1 stretch.result.now counter.result
+    (slot_runs a.numbers.now a.table.now (contents a.state.now.words.now) a.passed p.0 p.1 stretch.result.now counter.result
     stretch.ensures counter.ensures.0
     a.out.now a.start c.requires.room offers.ensures step.result step.ensures.promise.0
-    step.ensures.promise.1 c.print_stepped.ensures
+    step.ensures.promise.1 c.print_stepped.ensures).0
