@@ -11,3 +11,4 @@ pub mod Plan
 pub mod Run
 pub mod Lines
 pub mod Rest
+pub mod RefusalTexts
