@@ -133,7 +133,9 @@ impl Asking<'_> {
         self.largest_bound() + cycle(self.ws)
     }
 
-    // The first t of 0 to dP + M - 1 at which (11) or (12) fails, with the newcomer.
+    // The first t of 0 to dP + M - 1 at which (11) or (12) fails, with the newcomer. Never inlined: in a caller that holds more than registers
+    // can, as the program does, each turn of the inner loop read D and t from memory.
+    #[inline(never)]
     #[tactic(auto, using(crate::proofs::Rows::searches))]
     pub fn first_failing(&self) -> Option<u32>
         ensures { search_of result ≡ finite_search (settings_at self.now.ws.now) (with_asked self.now.ws.now self.now.newcomer) }

@@ -6,7 +6,7 @@ ghost use Rattle.std.specs.Prelude.{◌≤◌, length, IfOk};
 use anyhow::{Context, Result};
 use std::io;
 use std::io::{Read, Write};
-use whole_run::rooms::{PLAN_ROOM, TEXT_ROOM, zeros};
+use whole_run::rooms::{TEXT_ROOM, plan_room, zeros};
 use whole_run::running::run_plan;
 
 // Reads until the room is full or the input ends, and says how many bytes at the room's start were read. The library has no such call without
@@ -27,7 +27,7 @@ fn read_full(from: &mut impl Read, room: &mut [u8]) -> io::Result<usize>
 
 // Its rooms are arrays, since the program has no heap. An input that cannot be read, and lines that cannot be written, end it with an error that says so on standard error.
 fn main(rt: HostRuntime) -> Result<()> {
-    let mut plan = zeros::<u8, PLAN_ROOM>();
+    let mut plan = plan_room();
     let mut text = zeros::<u8, TEXT_ROOM>();
     let n = read_full(&mut rt.stdin(), &mut plan).context("standard input")?;
     let size = run_plan(&plan[..n], &mut text).context("room for the text")?;

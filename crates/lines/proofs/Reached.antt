@@ -3,10 +3,11 @@ use Prim.Native.Nat.{ℕ}
 use mathlib.Core.Path.{◌≡◌, refl, sym, ap, ◌∙◌, subst}
 use mathlib.Core.List.{List, [], ◌∷◌, ◌++◌, map, flatten, append_assoc, append-nil}
 use native.Mathlib.Omega.{arith}
+use lib.ListN.{length}
 use Rattle.laws.specs.Series.{map-append, flatten_append}
 use Rattle.meaning.specs.Lines.{line_text, text_of}
 use Rattle.lines.specs.Put.{Room, Put}
-use Rattle.lines.proofs.Puts.{put_nothing, then, room_after, room_first}
+use Rattle.lines.proofs.Puts.{put_nothing, then, room_after, room_first, put_length}
 use Rattle.meaning.specs.declared.Line.{Line}
 
 -- The text of lines is that of the first, and then that of the others.
@@ -66,6 +67,10 @@ module _ {before now : List ℕ} {start : ℕ} {whole rest : List ℕ} {at : ℕ
     -- there is room for the rest
     pub reached_room : Room now at rest
     reached_room = room_after rest r.put room_joined
+
+    -- the buffer has the same length
+    pub reached_length : length now ≡ length before
+    reached_length = put_length r.put (room_first before start r.done rest room_joined)
 
     -- Once the rest is put too, the whole text is put.
     pub reached_last : {out : List ℕ} {next : ℕ} → Put now out at rest next → Put before out start whole next

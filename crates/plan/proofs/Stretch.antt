@@ -1,7 +1,7 @@
 -- What the stretch of a slot holds, and the walk over the slots in order.
 use Rattle.std.proofs.Common.{◌≡◌, ℕ, zero, suc, ◌∷◌, map, cond, nat_lt, slice_index, refl, drop-drop, ◌+◌, ◌-◌, ◌*◌, ◌/◌, ◌<◌, ◌≤◌, true, List, [], length, get_or, take, drop, sym, ap, ◌∙◌, ap₂, arith, length-drop, length-take}
 use Rattle.std.proofs.lemmas.List.Folds.{length-prefix_len}
-use Rattle.std.specs.List.{prefix_len, take_while}
+use Rattle.std.specs.List.{prefix_len, take_while, drop-map}
 use Rattle.std.specs.Simd.{first_chunks}
 use Rattle.meaning.specs.Plan.{words_of, table, arrival_at, never_falling_from, arrivals_of}
 use Rattle.plan.specs.Entries.{get_or_table, take_table}
@@ -101,22 +101,23 @@ leading_chunks limit (e ∷ entries) =
 
 -- So many chunks lie between an entry and the boundary.
 pub boundary_counts :
-    (bytes rest : List ℕ) (entries : List (List ℕ)) (from limit : ℕ) → rest ≡ drop (12 * from) bytes →
-    entries ≡ first_chunks 12 (length rest / 12) rest →
+    (bytes : List ℕ) (chunks entries : List (List ℕ)) (from limit : ℕ) → chunks ≡ first_chunks 12 (length bytes / 12) bytes →
+    entries ≡ drop from chunks →
     from + length (take_while (λ e. nat_lt (slice_index (words_of e) 0) limit) entries) ≡ boundary (arrivals_in bytes) from limit
 unfolding boundary arrivals_in
-boundary_counts bytes rest entries from limit e f =
-    let n = length rest / 12 in
+boundary_counts bytes chunks entries from limit e f =
+    let n = length bytes / 12 in
     let start : 3 * 0 ≡ 0 = omega arith in
     ap (λ k. from + k)
     (length-prefix_len (λ e. nat_lt (slice_index (words_of e) 0) limit) entries ∙
     leading_chunks limit entries ∙
     ap (leading limit)
     (ap (map (λ e. arrival_at (words_of e) 0)) f ∙
-    arrivals_of_chunks rest 0 n (omega arith) ∙
-    ap (λ i. table arrival_at 3 (words_of rest) i n) start ∙
-    ap arrivals_in e ∙
-    arrivals_from bytes from))
+    sym (drop-map (λ e. arrival_at (words_of e) 0) from chunks) ∙
+    ap (drop from)
+    (ap (map (λ e. arrival_at (words_of e) 0)) e ∙
+    arrivals_of_chunks bytes 0 n (omega arith) ∙
+    ap (λ i. table arrival_at 3 (words_of bytes) i n) start)))
 
 module _ (bytes : List ℕ) (from slot : ℕ) (inside : from ≤ length bytes / 12) where
   -- The stretch holds the entries from its start up to its end.

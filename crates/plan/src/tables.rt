@@ -79,12 +79,19 @@ pub fn arrival(arrivals: &[u8], i: usize) -> Arrival
     }
 }
 
+// The entries of an arrival table from the one numbered i on; none where it ends before that.
+fn entries_from(entries: &[[u8; 12]], i: usize) -> &[[u8; 12]]
+    ensures { result.now ≡ drop i entries.now }
+{
+    entries.get(i..).unwrap_or(&[])
+}
+
 // The first entry, from the one numbered `from` on, whose slot is `limit` or more; where there is none, the number of entries, as the
 // definition `boundary` has it: a stretch ends there.
 pub fn first_from(arrivals: &[u8], from: usize, limit: u64) -> usize
     ensures { result ≡ boundary (arrivals_in arrivals.now) from limit }
 {
-    let entries = rest(arrivals, from, 12).as_chunks::<12>().0;
+    let entries = entries_from(arrivals.as_chunks::<12>().0, from);
     let before = entries
         .iter()
         .take_while(|a| u64::from(number(*a, 0)) < limit)

@@ -4,9 +4,8 @@ use mathlib.Core.Path.{◌≡◌, refl, sym, ap, ◌∙◌}
 use mathlib.Core.List.{List, [], ◌∷◌, ◌++◌, map, flatten, append_assoc, append-nil}
 use native.Mathlib.Omega.{arith}
 use lib.ListN.{length, get_or, drop, set, replicate, length-append, length-replicate, replicate-append-replicate}
-use lib.Seq.{drop-append-le}
+use lib.Seq.{drop-append-le, drop-drop}
 use Rattle.std.proofs.lemmas.List.{drop-replicate}
-use borrow.Rule.Slice.PartMut.{put_mid}
 use Rattle.laws.specs.Series.{series, series_same, append_same}
 use Rattle.meaning.specs.Numbers.{Settings, largest_factor}
 use Rattle.meaning.specs.Queues.{empty_queues}
@@ -15,7 +14,7 @@ use Rattle.meaning.specs.Calls.{new_box}
 use Rattle.words.specs.Places.{tag_of, interval_at, cycle_at, classes_at, factors_at, row_count_at, packets_at}
 use Rattle.words.specs.Contents.{padded, packet_words, link_words, turns_of, by_place, laid, tables, image, put}
 use Rattle.words.proofs.Laid.{total, Empty, laid_zeros}
-use Rattle.tables.specs.Opening.{asked}
+use Rattle.tables.specs.Opening.{asked, factors_put}
 
 -- Among empty queues every queue is empty, at any place.
 get_d_empty : (n k : ℕ) → get_or (replicate {A = List Packet} n []) k [] ≡ []
@@ -96,22 +95,21 @@ image_new D M fs h =
 
 -- What opening writes is a new box put into the words: the settings over zeros, and the factors after them.
 pub opening_writes : (D M : ℕ) (fs ws cleared : List ℕ) → length fs ≤ 8 → cleared ≡ replicate packets_at 0
-    → put_mid factors_at (factors_at + length fs - factors_at)
-    (set (set (set (cleared ++ drop packets_at ws) interval_at D) cycle_at M) classes_at (length fs)) fs
+    → factors_put fs (set (set (set (cleared ++ drop packets_at ws) interval_at D) cycle_at M) classes_at (length fs))
     ≡ put (new_box (asked D M fs)) ws
 unfolding put
 opening_writes D M fs ws cleared h e =
     (let k = length fs in
     let R = drop packets_at ws in
     let z : List ℕ = replicate (packets_at - factors_at) 0 in
-    let n : factors_at + k - factors_at ≡ k = omega arith in
-    let d : drop k (z ++ R) ≡ replicate (packets_at - factors_at - k) 0 ++ R =
+    let d : drop (factors_at + k) (D ∷ M ∷ k ∷ (z ++ R)) ≡ replicate (packets_at - factors_at - k) 0 ++ R =
+    sym (drop-drop k factors_at (D ∷ M ∷ k ∷ (z ++ R))) ∙
     drop-append-le k z R (rw (length-replicate {A = ℕ} (packets_at - factors_at) 0) (omega arith)) ∙
     ap (λ t. t ++ R) (drop-replicate k (packets_at - factors_at) 0) in
     let i = image_new D M fs h in
     let size : length (image (new_box (asked D M fs))) ≡ packets_at =
     rw (i, length-append fs (replicate (packets_at - factors_at - k) 0), length-replicate {A = ℕ} (packets_at - factors_at - k) 0)
     (omega arith) in
-    rw (e, n) (ap (λ t. (D ∷ M ∷ k ∷ []) ++ (fs ++ t)) d ∙
+    rw e (ap (λ t. (D ∷ M ∷ k ∷ []) ++ fs ++ t) d ∙ append_assoc (D ∷ M ∷ k ∷ []) fs (replicate (packets_at - factors_at - k) 0 ++ R) ∙
     ap (λ t. (D ∷ M ∷ k ∷ []) ++ t) (sym (append_assoc fs (replicate (packets_at - factors_at - k) 0) R)) ∙
     append_same (sym i) (ap (λ m. drop m ws) (sym size))))

@@ -1,14 +1,18 @@
 -- Opening a box in lent words.
-use Rattle.std.specs.Prelude.{ℕ, ◌≡◌, List, length, Result, Ok, Err}
+use Rattle.std.specs.Prelude.{ℕ, ◌+◌, ◌≡◌, List, ◌++◌, length, take, drop, Result, Ok, Err}
 use Rattle.meaning.specs.Numbers.{Settings}
 use Rattle.meaning.specs.Calls.{opening_answer, new_box}
-use Rattle.words.specs.Places.{box_words}
+use Rattle.words.specs.Places.{factors_at, box_words}
 use Rattle.words.specs.Contents.{put}
 use Rattle.meaning.specs.declared.Refusal.{Refusal}
 
 -- The settings that a box is opened with.
 abbrev pub asked : ℕ → ℕ → List ℕ → Settings
 asked D M fs = record { interval = D; cycle = M; factors = fs }
+
+-- The words with these factors at their places.
+abbrev pub factors_put : List ℕ → List ℕ → List ℕ
+factors_put fs ws = take factors_at ws ++ fs ++ drop (factors_at + length fs) ws
 
 -- The words after an opening: those of a new box, or as they were where it is refused.
 unfoldable pub after_opening : Settings → List ℕ → Result Unit Refusal → List ℕ

@@ -14,4 +14,4 @@ returns c =
     ap (λ n. a.from + n)
     (count_from_yields_List c.take_while.result c.count-before.result c.count-before.ensures.ran
     (YieldsList-from_take_while _ test (YieldsList-at w.source (YieldsList-from_slice _ c.iter.ensures.rest)) w.closure w.done (λ x b q k. search (rules, tests)))) ∙
-    boundary_counts a.arrivals.now c.rest.result.now c.as_chunks.result.0.now a.from a.limit c.rest.ensures c.as_chunks.ensures.front
+    boundary_counts a.arrivals.now c.as_chunks.result.0.now c.entries_from-entries.result.now a.from a.limit c.as_chunks.ensures.front c.entries_from-entries.ensures

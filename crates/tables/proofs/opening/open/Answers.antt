@@ -36,8 +36,8 @@ overflow_cast-ws c =
     let a = c.args in
     record { fits = omega (arith, factors_most a.d a.m a.factors.now (sym c.settings_allowed.ensures ∙ c.if-not-settings_allowed.false)) }
 
-pub slice_bounds-copy_from_slice-end : goal.slice_bounds-copy_from_slice-end
-slice_bounds-copy_from_slice-end c =
+pub write_factors-requires : goal.write_factors-requires
+write_factors-requires c =
     let a = c.args in
     let most = factors_most a.d a.m a.factors.now (sym c.settings_allowed.ensures ∙ c.if-not-settings_allowed.false) in
     simp (length-set, length-append, length-drop, c.fill.ensures.len, length-take) (omega arith)
@@ -50,4 +50,4 @@ returns c =
     let zeros : c.fill.new.self ≡ replicate packets_at 0 = c.fill.ensures.after (λ y same. same) ∙
     ap (λ k. replicate k 0) (length-take-le packets_at a.ws.now (omega arith)) in
     let w = opening_writes a.d a.m a.factors.now a.ws.now c.fill.new.self (factors_most a.d a.m a.factors.now e) zeros in
-    rw c.copy_from_slice.ensures.after (simp (e, le-ltb _ _ c.if-ws-lt-BOX_WORDS.false) (ap (λ l. (Ok (tt {0}), l)) w))
+    rw c.write_factors.ensures (simp (e, le-ltb _ _ c.if-ws-lt-BOX_WORDS.false) (ap (λ l. (Ok (tt {0}), l)) w))
